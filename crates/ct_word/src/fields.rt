@@ -1,0 +1,22 @@
+//! Fields of several bytes, the highest byte first.
+
+ghost use Rattle.std.specs.Prelude.{◌≡◌, ◌+◌, ◌≤◌, length};
+ghost use Rattle.ct_word.specs.Fields.{number_at};
+
+use byteorder::{BigEndian, ByteOrder};
+
+/// The number in the two bytes from `at` on.
+pub fn u16_at(bytes: &[u8], at: usize) -> u16
+    requires { at + 2 ≤ length bytes.now }
+    ensures { result ≡ number_at 2 at bytes.now }
+{
+    BigEndian::read_u16(&bytes[at..])
+}
+
+/// The number in the four bytes from `at` on.
+pub fn u32_at(bytes: &[u8], at: usize) -> u32
+    requires { at + 4 ≤ length bytes.now }
+    ensures { result ≡ number_at 4 at bytes.now }
+{
+    BigEndian::read_u32(&bytes[at..])
+}
