@@ -1,0 +1,5 @@
+pub mod Forms
+pub mod Table
+pub mod Encoding
+pub mod Asked
+pub mod Index
