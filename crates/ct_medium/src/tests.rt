@@ -1,0 +1,40 @@
+ghost use Rattle.std.specs.Prelude.{◌≡◌, ℕ, ◌<◌, length};
+
+use super::*;
+use ct_word::{Block, Failed};
+use std::test::Fail;
+
+// Puts a block of these bytes at a place, reads it back, and hands out what stood there.
+fn put<B: Backend>(
+    medium: &mut B,
+    lba: u32,
+    byte: u8,
+    block: &mut Block,
+    into: &mut [u8; 512],
+) -> Result<(), Failed>
+    requires { lba < length (B.blocks medium.old) }
+{
+    block.fill(&[byte; 512]);
+    medium.swap(lba, block)?;
+    medium.get(lba, into)
+}
+
+#[test]
+fn swaps_and_gets_at_both_ends(rt: HostRuntime) -> Result<(), Fail> {
+    let alloc = rt.alloc();
+    let mut ram = Ram::open(alloc, 3)?;
+    assert_eq!(rt; ram.len(), 3);
+    let mut block = Block::zeros(alloc)?;
+    let mut into = [9; 512];
+    for (lba, byte) in [(0, 7), (2, 8)] {
+        assert!(rt; lba < ram.len());
+        put(&mut ram, lba, byte, &mut block, &mut into)?;
+        assert_eq!(rt; into, [byte; 512], "at {lba}");
+        assert_eq!(rt; *block.bytes(), [0; 512], "at {lba}");
+    }
+    assert!(rt; 3 <= ram.len());
+    assert_eq!(rt; *ram.block(0), [7; 512]);
+    assert_eq!(rt; *ram.block(1), [0; 512]);
+    assert_eq!(rt; *ram.block(2), [8; 512]);
+    Ok(())
+}
