@@ -1,0 +1,3 @@
+mod Slots
+mod Steps
+pub mod Leases
