@@ -1,0 +1,18 @@
+use Rattle.std.proofs.Common.{arith}
+use Rattle.ct_plan.proofs.Ranged.{length-range, gets_at, puts_at}
+use Rattle.ct_plan.proofs.plan.Plan.next.Goals as goal
+
+pub overflow_add-lba : goal.overflow_add-lba
+overflow_add-lba c =
+    let within = rw (← c.self.view_is) at c.requires in
+    omega (arith, within, length-range c.self.inside.work c.self.inside.lba c.self.inside.count)
+
+pub returns-in-Gets : goal.returns-in-Gets
+returns-in-Gets c =
+    let within = rw (← c.self.view_is) at c.requires in
+    rw (← c.self.view_is, c.in-Gets.is) (gets_at c.self.inside.lba c.self.inside.count c.args.done (omega (arith, within, length-range c.self.inside.work c.self.inside.lba c.self.inside.count)))
+
+pub returns-in-Puts : goal.returns-in-Puts
+returns-in-Puts c =
+    let within = rw (← c.self.view_is) at c.requires in
+    rw (← c.self.view_is, c.in-Puts.is) (puts_at c.self.inside.lba c.self.inside.count c.args.done (omega (arith, within, length-range c.self.inside.work c.self.inside.lba c.self.inside.count)))

@@ -1,0 +1,4 @@
+pub mod Plans
+pub mod Ranges
+pub mod Cells
+pub mod Effects

@@ -1,0 +1,9 @@
+/// One operation on a block of the medium. The first number is the block's LBA; where there is a second, it says which
+/// block of 512 bytes of the data-out is meant, from 0.
+#[derive(Clone, Copy, Debug, PartialEq, Eq)]
+pub enum BlockOp {
+    /// The block is given to the initiator.
+    Get(u32),
+    /// A block of the data-out is put.
+    Put(u32, u32),
+}

@@ -1,0 +1,129 @@
+ghost use Rattle.std.specs.Prelude.{◌≡◌, ◌+◌, ◌*◌, ◌<◌, ◌≤◌, length, take, slice_get, Some};
+ghost use Rattle.ct_plan.specs.Plans.{plan_of, need_of, is_performed, data_length, is_inside, puts_among};
+
+use crate::operation::BlockOp;
+use ct_cdb::Op;
+use std::marker::Model;
+
+/// What a range of blocks is for.
+#[derive(Clone, Copy, Debug, PartialEq, Eq)]
+enum Work {
+    Gets,
+    Puts,
+}
+
+/// The block operations of a command, of fixed size, as contracts see it: a list, and the blocks of the pool that it needs.
+#[derive(Debug, Drop)]
+pub struct Plan {
+    work: Work,
+    lba: u32,
+    count: u32,
+}
+
+impl Model for Plan {
+    ghost use Rattle.std.specs.Prelude.{◌+◌, ◌≤◌, ◌^◌};
+    ghost use Rattle.ct_plan.specs.Ranges.{PlanState};
+
+    ghost Value = { PlanState };
+
+    ghost use Rattle.ct_plan.specs.Ranges.{range_operations};
+
+    ghost view = { λ p. record { operations = range_operations p.work p.lba p.count; need = p.count } };
+
+    ghost invariant = { λ p. p.lba + p.count ≤ 65536 };
+}
+
+impl Plan {
+    /// The plan of a command with this data-out, on a disk of so many blocks, 1 to 65,536. It is empty where the data-out
+    /// is too short or the range isn't inside the disk.
+    #[tactic(auto, unfolding(crate::specs::Plans::plan_of, crate::specs::Plans::need_of))]
+    pub fn of(op: &Op, out: &[u8], blocks: u32) -> Plan
+        requires { blocks ≤ 65536 }
+        ensures operations { result.operations ≡ plan_of (length out.now) blocks op.now }
+        ensures need { result.need ≡ need_of (length out.now) blocks op.now }
+    {
+        if !is_performed(op, out.len(), blocks) {
+            return Plan {
+                work: Work::Gets,
+                lba: 0,
+                count: 0,
+            };
+        }
+        match *op {
+            Op::Read10 { lba, count } => Plan {
+                work: Work::Gets,
+                lba,
+                count: u32::from(count),
+            },
+            Op::Write10 { lba, count } => Plan {
+                work: Work::Puts,
+                lba,
+                count: u32::from(count),
+            },
+        }
+    }
+
+    /// How many block operations there are.
+    pub fn length(&self) -> u32
+        ensures { result ≡ length self.now.operations }
+    {
+        self.count
+    }
+
+    /// How many blocks of the pool a command needs meanwhile.
+    pub fn need(&self) -> u32
+        ensures { result ≡ self.now.need }
+    {
+        self.count
+    }
+
+    /// How many of the first `done` operations are puts.
+    pub fn writes_done(&self, done: u32) -> u32
+        ensures { result ≡ puts_among (take done self.now.operations) }
+    {
+        match self.work {
+            Work::Gets => 0,
+            Work::Puts => done.min(self.count),
+        }
+    }
+
+    /// The operation behind the first `done` ones.
+    pub fn next(&self, done: u32) -> BlockOp
+        requires { done < length self.now.operations }
+        ensures { slice_get self.now.operations done ≡ Some result }
+    {
+        let lba = self.lba + done;
+        match self.work {
+            Work::Gets => BlockOp::Get(lba),
+            Work::Puts => BlockOp::Put(lba, done),
+        }
+    }
+}
+
+// Neither its data-out nor its range refuses the command.
+fn is_performed(op: &Op, out: usize, blocks: u32) -> bool
+    ensures { result ≡ is_performed out blocks op.now }
+{
+    out >= data_length(op) && is_inside(op, blocks)
+}
+
+/// The bytes of data-out that a command asks for.
+pub fn data_length(op: &Op) -> usize
+    ensures { result ≡ data_length op.now }
+{
+    match *op {
+        Op::Read10 { .. } => 0,
+        Op::Write10 { lba: _, count } => 512 * usize::from(count),
+    }
+}
+
+/// The command's range of blocks is inside a disk of so many blocks, also an empty range.
+pub fn is_inside(op: &Op, blocks: u32) -> bool
+    ensures { result ≡ is_inside blocks op.now }
+{
+    match *op {
+        Op::Read10 { lba, count } | Op::Write10 { lba, count } => {
+            u64::from(lba) + u64::from(count) <= u64::from(blocks)
+        }
+    }
+}
