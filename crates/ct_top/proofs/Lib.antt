@@ -1,0 +1,4 @@
+pub mod Cutting
+pub mod Texts
+pub mod Running
+pub mod Splicing

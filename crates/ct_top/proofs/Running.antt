@@ -1,0 +1,70 @@
+-- The first run of a list, and what is behind it.
+use Rattle.std.proofs.Common.{◌≡◌, ℕ, ◌+◌, Bool, true, false, not, nat_eq, List, [], ◌∷◌, length, drop, refl, sym, ap, ◌∙◌, arith, Decides, bytes_eq, subst, ◌++◌, ◌<◌, append_assoc, get_or}
+use Rattle.std.specs.List.{between}
+use Rattle.std.proofs.lemmas.Slice.{first_rest}
+use Rattle.std.proofs.lemmas.List.{take_rest}
+use native.Mathlib.Numerals.{one-add}
+use Rattle.std.specs.List.{position_or_len}
+use Rattle.std.proofs.lemmas.Bool.Decides.{Decides-eqb}
+use Rattle.std.proofs.lemmas.Slice.Eq.{bytes_eq-Decides}
+use Rattle.ct_top.specs.ByteText.{run_text, behind_dots, text_of_runs, text_of_bytes}
+use Rattle.ct_top.specs.Report.{block_run_text, block_runs_text}
+use Rattle.ct_top.specs.Runs.{Run, with_front, runs_of}
+
+-- a run of so many items
+abbrev run_of : {X : Type 0} → X → ℕ → Run X
+run_of x n = record { item = x; count = n }
+
+-- how many items are equal to this one, up to the first that isn't
+abbrev pub ahead : {X : Type 0} → (X → X → Bool) → X → List X → ℕ
+ahead same x xs = position_or_len (λ y. not (same y x)) xs
+
+-- what is said of a list that begins with x
+abbrev Begins : {X : Type 0} → (X → X → Bool) → X → List X → Type 0
+Begins same x xs = runs_of same (x ∷ xs) ≡ run_of x (ahead same x xs + 1) ∷ runs_of same (drop (ahead same x xs) xs)
+
+longer : {X : Type 0} (same : X → X → Bool) (x : X) (ys : List X) → same x x ≡ true → Begins same x ys → Begins same x (x ∷ ys)
+longer same x ys e rest = ap (with_front same x) rest ∙ rw (e, one-add (ahead same x ys)) (ap (λ n. run_of x n ∷ runs_of same (drop (ahead same x ys) ys)) (omega arith))
+
+begins : {X : Type 0} (same : X → X → Bool) (decides : (a b : X) → Decides (same a b) (a ≡ b)) (x y : X) (ys : List X) → Begins same y ys → Begins same x (y ∷ ys)
+begins same decides x y ys rest = by_test (same y x) refl
+  where
+    by_test : (b : Bool) → same y x ≡ b → Begins same x (y ∷ ys)
+    by_test true e = subst (λ z. Begins same z (y ∷ ys)) ((decides y x).0 e) (longer same y ys ((decides y y).1 refl) rest)
+    by_test false e = ap (with_front same x) rest ∙ rw e (ap (λ runs. run_of x 1 ∷ runs) (sym rest))
+
+pub runs_first : {X : Type 0} (same : X → X → Bool) (decides : (a b : X) → Decides (same a b) (a ≡ b)) (x : X) (xs : List X) → Begins same x xs
+runs_first same decides x [] = refl
+runs_first same decides x (y ∷ ys) = begins same decides x y ys (runs_first same decides y ys)
+
+byte_runs_first : (first : ℕ) (others : List ℕ) → runs_of nat_eq (first ∷ others) ≡ run_of first (ahead nat_eq first others + 1) ∷ runs_of nat_eq (drop (ahead nat_eq first others) others)
+byte_runs_first first others = runs_first nat_eq Decides-eqb first others
+
+-- the first run in print, and the rest behind it
+pub first_run_text : (old new bytes : List ℕ) (n : ℕ) → 0 < length bytes → n ≡ ahead nat_eq (get_or bytes 0 0) (between 1 (length bytes) bytes) → new ≡ old ++ run_text (run_of (get_or bytes 0 0) (n + 1)) → new ++ behind_dots (runs_of nat_eq (between n (length (between 1 (length bytes) bytes)) (between 1 (length bytes) bytes))) ≡ old ++ text_of_bytes bytes
+first_run_text old new bytes n some count text =
+    let first = get_or bytes 0 0 in
+    let others = between 1 (length bytes) bytes in
+    let runs : runs_of nat_eq bytes ≡ run_of first (n + 1) ∷ runs_of nat_eq (drop n others) = ap (runs_of nat_eq) (first_rest bytes 0 some) ∙ byte_runs_first first others ∙ ap (λ k. run_of first (k + 1) ∷ runs_of nat_eq (drop k others)) (sym count) in
+    let behind : new ++ behind_dots (runs_of nat_eq (drop n others)) ≡ old ++ text_of_bytes bytes = rw (text, append_assoc) (ap (λ rs. old ++ text_of_runs rs) (sym runs)) in
+    ap (λ rest. new ++ behind_dots (runs_of nat_eq rest)) (take_rest others n) ∙ behind
+
+-- bytes behind a dot
+dotted : (bytes : List ℕ) → 0 < length bytes → behind_dots (runs_of nat_eq bytes) ≡ 46 ∷ text_of_bytes bytes
+dotted [] some = absurd (omega arith)
+dotted (first ∷ others) some = rw byte_runs_first
+
+pub dotted_step : (all text pushed rest : List ℕ) → text ++ behind_dots (runs_of nat_eq rest) ≡ all → pushed ≡ text ++ 46 ∷ [] → 0 < length rest → pushed ++ text_of_bytes rest ≡ all
+dotted_step all text pushed rest is push some = rw (push, append_assoc) (ap (λ more. text ++ more) (sym (dotted rest some)) ∙ is)
+
+-- the first run of blocks in print, and the blocks behind it
+pub first_blocks_text : (old new : List ℕ) (blocks : List (List ℕ)) (first n : ℕ) (block bytes : List ℕ) → 0 < length blocks → block ≡ get_or blocks 0 block → bytes ≡ block → n ≡ ahead bytes_eq bytes (between 1 (length blocks) blocks) → new ≡ old ++ block_run_text first (run_of bytes (1 + n)) → new ++ block_runs_text (first + (1 + n)) (runs_of bytes_eq (drop (1 + n) blocks)) ≡ old ++ block_runs_text first (runs_of bytes_eq blocks)
+first_blocks_text old new blocks first n block bytes some is same count text =
+    let others = between 1 (length blocks) blocks in
+    let opened : blocks ≡ bytes ∷ others = first_rest blocks block some ∙ ap (λ b. b ∷ others) (sym is ∙ sym same) in
+    let runs : runs_of bytes_eq blocks ≡ run_of bytes (1 + n) ∷ runs_of bytes_eq (drop n others) =
+    ap (runs_of bytes_eq) opened ∙ runs_first bytes_eq bytes_eq-Decides bytes others
+    ∙ ap (λ k. run_of bytes k ∷ runs_of bytes_eq (drop (ahead bytes_eq bytes others) others)) (omega arith)
+    ∙ ap (λ k. run_of bytes (1 + n) ∷ runs_of bytes_eq (drop k others)) (sym count) in
+    let behind : drop (1 + n) blocks ≡ drop n others = ap (drop (1 + n)) opened ∙ rw (one-add n) refl in
+    rw (text, append_assoc, behind) (ap (λ rs. old ++ block_runs_text first rs) (sym runs))

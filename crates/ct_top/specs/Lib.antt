@@ -1,0 +1,12 @@
+pub mod Cuts
+pub mod ByteText
+pub mod Reading
+pub mod Words
+pub mod Forms
+pub mod Rules
+pub mod Scripts
+pub mod Runs
+pub mod Disk
+pub mod Report
+pub mod Served
+pub mod Exits

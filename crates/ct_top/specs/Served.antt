@@ -1,0 +1,52 @@
+-- What the top call answers, and what it leaves.
+use Rattle.std.specs.Prelude.{◌≡◌, ℕ, ◌<◌, ◌≤◌, List, [], ◌∷◌, length, take, bytes_eq, codes, if◌then◌else◌, Option, Some, None, Result, Ok}
+use Rattle.std.specs.Io.KnownBytes.{Appends}
+use Rattle.ct_io.specs.Causes.{Rose}
+use Rattle.ct_io.specs.Streams.{GivesAll}
+use Rattle.ct_top.specs.declared.command.Command.{Command}
+use Rattle.ct_top.specs.declared.command.Command.TheVariants.{Play}
+use Rattle.ct_top.specs.declared.script.Line.{Line}
+use Rattle.ct_top.specs.declared.script.ScriptFault.{ScriptFault}
+use Rattle.ct_top.specs.Scripts.{script_of}
+use Rattle.ct_top.specs.Report.{report_text}
+
+-- the command that words ask for, if they are a written one
+abbrev pub command_of : List (List ℕ) → Option Command
+command_of (word ∷ []) = if bytes_eq word (codes "play") then Some Play else None
+command_of _ = None
+
+-- the most bytes of a script
+abbrev pub most_bytes : ℕ
+most_bytes = 8388608
+
+-- a source was read to its end, and its bytes say this
+pub record WasRead (old new : Option (List ℕ)) (says : Result (List Line) ScriptFault) : Type 0 where
+  pub bytes : List ℕ
+  pub all : GivesAll old new bytes
+  pub within : length bytes ≤ most_bytes
+  pub meaning : script_of bytes ≡ says
+
+-- a script was read, and its whole report was written
+pub record IsReported (left_old left_new held_old held_new : Option (List ℕ)) (sent : ℕ) : Type 0 where
+  pub lines : List Line
+  pub script : WasRead left_old left_new (Ok lines)
+  pub written : Appends held_old held_new (report_text lines)
+  pub whole : sent ≡ length (report_text lines)
+
+-- a script was read, and its report was written up to some byte
+pub record IsCutShort (left_old left_new held_old held_new : Option (List ℕ)) (sent : ℕ) : Type 0 where
+  pub lines : List Line
+  pub script : WasRead left_old left_new (Ok lines)
+  pub written : Appends held_old held_new (take sent (report_text lines))
+  pub part : sent < length (report_text lines)
+
+-- words, source and sink of which a report is to come: a written command, a script that is short enough, no fault
+pub record IsPlayable (words : List (List ℕ)) (left : Option (List ℕ)) (source_before source_now sink_before sink_now : ℕ) : Type 0 where
+  pub bytes : List ℕ
+  pub lines : List Line
+  pub play : command_of words ≡ Some Play
+  pub told : left ≡ Some bytes
+  pub short : length bytes ≤ most_bytes
+  pub script : script_of bytes ≡ Ok lines
+  pub no_read_fault : ¬ (Rose source_before source_now)
+  pub no_write_fault : ¬ (Rose sink_before sink_now)

@@ -1,0 +1,17 @@
+-- The words of a line.
+use Rattle.std.specs.Prelude.{ℕ, List, ◌==◌, ◌&&◌, nat_le, if◌then◌else◌, Option, Some, None}
+use Rattle.std.specs.List.{slice_split}
+use Rattle.ct_word.specs.Decimals.{decimal_of}
+
+-- single spaces stand between words
+abbrev pub words_of : List ℕ → List (List ℕ)
+words_of line = slice_split (λ b. b == 32) line
+
+-- a number, where it is within these two
+abbrev pub within : ℕ → ℕ → Option ℕ → Option ℕ
+within low high None = None
+within low high (Some n) = if nat_le low n && nat_le n high then Some n else None
+
+-- the number that a word spells, where it is in the range of its place
+abbrev pub number_in : ℕ → ℕ → List ℕ → Option ℕ
+number_in low high word = within low high (decimal_of word)
