@@ -3,3 +3,4 @@ pub mod Table
 pub mod Encoding
 pub mod Asked
 pub mod Index
+pub mod Performed

@@ -7,7 +7,8 @@ use Rattle.std.proofs.lemmas.Bool.{false≢true}
 use Rattle.ct_cdb.specs.declared.op.Op.{Op}
 use Rattle.ct_cdb.specs.declared.op.Op.TheVariants.{Read10, Write10}
 use Rattle.ct_plan.specs.declared.operation.BlockOp.{BlockOp}
-use Rattle.ct_plan.specs.Plans.{gets, puts, is_performed, is_inside, plan_of}
+use Rattle.ct_cdb.specs.Performed.{is_performed, is_inside}
+use Rattle.ct_plan.specs.Plans.{gets, puts, plan_of}
 use Rattle.ct_plan.specs.Cells.{Cells, out_block, after, after_all}
 use Rattle.ct_plan.specs.Effects.{Disk, blocks_of, spliced, written_disk, data_in}
 

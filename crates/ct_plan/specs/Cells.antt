@@ -1,5 +1,5 @@
 -- What block operations do, one after another.
-use Rattle.std.specs.Prelude.{ℕ, ◌*◌, List, [], ◌∷◌, ◌++◌, take, drop, slice_set, slice_index_or}
+use Rattle.std.specs.Prelude.{ℕ, suc, ◌*◌, List, [], ◌∷◌, ◌++◌, Option, None, Some, take, drop, slice_set, slice_index_or}
 use Rattle.ct_plan.specs.declared.operation.BlockOp.{BlockOp}
 use Rattle.ct_plan.specs.declared.operation.BlockOp.TheVariants as operations
 
@@ -24,3 +24,27 @@ after out (operations.Put lba place) cells = with_block cells lba (out_block out
 abbrev pub after_all : List ℕ → List BlockOp → Cells → Cells
 after_all out [] cells = cells
 after_all out (operation ∷ others) cells = after_all out others (after out operation cells)
+
+-- the offset of the first byte at which an operation finds a difference; gets and puts compare nothing
+abbrev pub difference_at : List ℕ → BlockOp → Cells → Option ℕ
+difference_at out (operations.Get lba) cells = None
+difference_at out (operations.Put lba place) cells = None
+
+-- how far operations came: how many were made, one that found a difference among them, and what they did
+pub record Progress : Type 0 where
+  pub made : ℕ
+  pub difference : Option ℕ
+  pub cells : Cells
+
+abbrev pub one_more : Progress → Progress
+one_more progress = record progress { made = suc progress.made }
+
+abbrev pub unless : Option ℕ → Cells → Progress → Progress
+unless None cells others = one_more others
+unless (Some offset) cells others = record { made = 1; difference = Some offset; cells = cells }
+
+-- operations, one after another, up to the first that finds a difference
+abbrev pub performed : List ℕ → List BlockOp → Cells → Progress
+performed out [] cells = record { made = 0; difference = None; cells = cells }
+performed out (operation ∷ others) cells =
+    unless (difference_at out operation cells) cells (performed out others (after out operation cells))

@@ -1,7 +1,8 @@
 -- The plan of a command: its block operations, in the order in which they are made (SBC-3, READ (10) and WRITE (10)).
-use Rattle.std.specs.Prelude.{ℕ, zero, suc, ◌+◌, ◌*◌, List, [], ◌∷◌, nat_le, nat_lt, Bool, true, false, ◌&&◌, not, if◌then◌else◌}
+use Rattle.std.specs.Prelude.{ℕ, zero, suc, ◌+◌, List, [], ◌∷◌, Bool, true, false, if◌then◌else◌}
 use Rattle.ct_cdb.specs.declared.op.Op.{Op}
 use Rattle.ct_cdb.specs.declared.op.Op.TheVariants.{Read10, Write10}
+use Rattle.ct_cdb.specs.Performed.{is_performed}
 use Rattle.ct_plan.specs.declared.operation.BlockOp.{BlockOp}
 use Rattle.ct_plan.specs.declared.operation.BlockOp.TheVariants as operations
 
@@ -14,20 +15,6 @@ gets lba (suc count) = operations.Get lba ∷ gets (lba + 1) count
 abbrev pub puts : ℕ → ℕ → ℕ → List BlockOp
 puts lba place zero = []
 puts lba place (suc count) = operations.Put lba place ∷ puts (lba + 1) (place + 1) count
-
--- the bytes of data-out that a command asks for
-abbrev pub data_length : Op → ℕ
-data_length (Read10 lba count) = 0
-data_length (Write10 lba count) = 512 * count
-
--- its range of blocks is inside a disk of so many blocks, also an empty range
-abbrev pub is_inside : ℕ → Op → Bool
-is_inside blocks (Read10 lba count) = nat_le (lba + count) blocks
-is_inside blocks (Write10 lba count) = nat_le (lba + count) blocks
-
--- neither its data-out nor its range refuses the command
-abbrev pub is_performed : ℕ → ℕ → Op → Bool
-is_performed out blocks op = not (nat_lt out (data_length op)) && is_inside blocks op
 
 -- what a command that nothing refuses does
 abbrev pub operations_of : Op → List BlockOp

@@ -2,8 +2,9 @@
 
 ghost use Rattle.std.specs.Prelude.{◌≡◌, ◌+◌, ℕ, List, [], length, take, drop, true};
 ghost use Rattle.ct_cdb.specs.declared.op.Op.{Op};
+ghost use Rattle.ct_cdb.specs.Performed.{is_performed};
 ghost use Rattle.ct_plan.specs.declared.operation.BlockOp.{BlockOp};
-ghost use Rattle.ct_plan.specs.Plans.{is_performed, plan_of};
+ghost use Rattle.ct_plan.specs.Plans.{plan_of};
 ghost use Rattle.ct_plan.specs.Cells.{Cells, after_all};
 ghost use Rattle.ct_plan.specs.Effects.{written_disk, data_in};
 

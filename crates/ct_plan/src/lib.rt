@@ -7,7 +7,7 @@ mod plan;
 
 pub use laws::{any_pieces, whole};
 pub use operation::BlockOp;
-pub use plan::{Plan, data_length, is_inside};
+pub use plan::Plan;
 
 #[cfg(test)]
 mod tests {

@@ -1,8 +1,8 @@
-ghost use Rattle.std.specs.Prelude.{◌≡◌, ◌+◌, ◌*◌, ◌<◌, ◌≤◌, length, take, slice_get, Some};
-ghost use Rattle.ct_plan.specs.Plans.{plan_of, need_of, is_performed, data_length, is_inside, puts_among};
+ghost use Rattle.std.specs.Prelude.{◌≡◌, ◌+◌, ◌<◌, ◌≤◌, length, take, slice_get, Some};
+ghost use Rattle.ct_plan.specs.Plans.{plan_of, need_of, puts_among};
 
 use crate::operation::BlockOp;
-use ct_cdb::Op;
+use ct_cdb::{Op, is_performed};
 use std::marker::Model;
 
 /// What a range of blocks is for.
@@ -96,34 +96,6 @@ impl Plan {
         match self.work {
             Work::Gets => BlockOp::Get(lba),
             Work::Puts => BlockOp::Put(lba, done),
-        }
-    }
-}
-
-// Neither its data-out nor its range refuses the command.
-fn is_performed(op: &Op, out: usize, blocks: u32) -> bool
-    ensures { result ≡ is_performed out blocks op.now }
-{
-    out >= data_length(op) && is_inside(op, blocks)
-}
-
-/// The bytes of data-out that a command asks for.
-pub fn data_length(op: &Op) -> usize
-    ensures { result ≡ data_length op.now }
-{
-    match *op {
-        Op::Read10 { .. } => 0,
-        Op::Write10 { lba: _, count } => 512 * usize::from(count),
-    }
-}
-
-/// The command's range of blocks is inside a disk of so many blocks, also an empty range.
-pub fn is_inside(op: &Op, blocks: u32) -> bool
-    ensures { result ≡ is_inside blocks op.now }
-{
-    match *op {
-        Op::Read10 { lba, count } | Op::Write10 { lba, count } => {
-            u64::from(lba) + u64::from(count) <= u64::from(blocks)
         }
     }
 }

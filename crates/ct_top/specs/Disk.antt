@@ -1,7 +1,7 @@
 -- The whole execution of a command on a disk, at once (SBC-3, READ (10) and WRITE (10)).
 use Rattle.std.specs.Prelude.{ℕ, List, length, nat_lt, if◌then◌else◌}
 use Rattle.ct_cdb.specs.declared.op.Op.{Op}
-use Rattle.ct_plan.specs.Plans.{data_length, is_inside}
+use Rattle.ct_cdb.specs.Performed.{data_length, is_inside}
 use Rattle.ct_plan.specs.Effects.{Disk, written_disk, data_in}
 use Rattle.ct_top.specs.declared.answer.Answer.{Answer}
 use Rattle.ct_top.specs.declared.answer.Answer.TheVariants.{Good, CheckCondition}

@@ -5,7 +5,7 @@ use Rattle.ct_cdb.specs.declared.op.Cdb.{Cdb}
 use Rattle.ct_cdb.specs.declared.op.CdbFault.{CdbFault}
 use Rattle.ct_cdb.specs.declared.op.Attr2.TheVariants.{Simple}
 use Rattle.ct_cdb.specs.Forms.{cdb_of}
-use Rattle.ct_plan.specs.Plans.{data_length}
+use Rattle.ct_cdb.specs.Performed.{data_length}
 use Rattle.ct_top.specs.declared.script.Word.{Word}
 use Rattle.ct_top.specs.declared.script.Word.TheVariants.{Lun, Port, Map, Cmd}
 use Rattle.ct_top.specs.ByteText.{bytes_of_text, at_most}

@@ -6,8 +6,7 @@ ghost use Rattle.ct_plan.specs.Effects.{blocks_of, spliced};
 ghost use Rattle.ct_top.specs.Disk.{execute};
 
 use crate::answer::{Answer, Refusal};
-use ct_cdb::Op;
-use ct_plan::{data_length, is_inside};
+use ct_cdb::{Op, data_length, is_inside};
 use ct_word::{Block, Bytes, NoMemory};
 use std::alloc::Global;
 use std::marker::Model;

@@ -10,8 +10,7 @@ use crate::byte_text::read_bytes;
 use crate::numbers::number_in;
 use crate::parts::Parts;
 use crate::script::Word;
-use ct_cdb::{Attr2, decode};
-use ct_plan::data_length;
+use ct_cdb::{Attr2, data_length, decode};
 use ct_word::{Bytes, LunNo, Nexus, NoMemory, Node, Tag};
 use std::alloc::Global;
 

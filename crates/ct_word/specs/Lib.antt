@@ -1,4 +1,6 @@
 pub mod Fields
 pub mod Decimals
+pub mod Nexuses
 pub mod Kept
 pub mod Lends
+pub mod LendsBytes

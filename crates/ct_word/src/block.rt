@@ -1,4 +1,5 @@
 ghost use Rattle.std.specs.Prelude.{◌≡◌, replicate, length, IfOk};
+ghost use Rattle.std.specs.Borrow.{sem};
 
 use crate::NoMemory;
 use std::alloc::Global;
@@ -19,6 +20,8 @@ impl Model for Block {
 }
 
 impl Block {
+    ghost use Rattle.ct_word.specs.LendsBytes.{LendsBytes};
+
     /// A block of zeros.
     pub fn zeros(alloc: Global) -> Result<Block, NoMemory>
         ensures { IfOk result (λ b. b ≡ replicate 512 0) }
@@ -32,6 +35,14 @@ impl Block {
         ensures { result.now ≡ self.now }
     {
         &self.bytes
+    }
+
+    /// The bytes for writing.
+    pub fn bytes_mut(&mut self) -> &mut [u8; 512]
+        ensures* writes_back { sem 𝓛 (LendsBytes self.entry result) }
+        ensures value { result.now ≡ self.old }
+    {
+        &mut self.bytes
     }
 
     /// Puts other bytes in the place of those that are there.

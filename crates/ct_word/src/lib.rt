@@ -7,6 +7,7 @@ mod decimals;
 mod fields;
 mod laws;
 mod names;
+mod nexus_set;
 mod reserve;
 
 pub use block::Block;
@@ -14,7 +15,8 @@ pub use bytes::Bytes;
 pub use decimals::read_decimal;
 pub use fields::{u16_at, u32_at};
 pub use laws::one_numeral;
-pub use names::{CmdNo, Failed, LunNo, Nexus, NoMemory, Node, Tag};
+pub use names::{CmdNo, Code, Failed, Ha, LunNo, Nexus, NoMemory, Node, Room, Tag};
+pub use nexus_set::NexusSet;
 pub use reserve::Reserve;
 
 #[cfg(test)]
@@ -50,6 +52,17 @@ mod tests {
     }
 
     #[test]
+    fn holds_nexuses(rt: HostRuntime) {
+        let last = Nexus { port: 15, init: 15 };
+        let other = Nexus { port: 15, init: 14 };
+        let mut set = NexusSet::open();
+        assert!(rt; !set.has(last));
+        set.add(last);
+        assert!(rt; set.has(last) && !set.has(other));
+        assert_eq!(rt; CmdNo::new(7).number(), 7);
+    }
+
+    #[test]
     fn holds_bytes(rt: HostRuntime) -> Result<(), Fail> {
         let alloc = rt.alloc();
         let bytes = Bytes::from_vec([1, 2].to_vec(alloc)?);
@@ -60,6 +73,8 @@ mod tests {
         assert_eq!(rt; block.bytes()[511], 0);
         block.fill(&[7; 512]);
         assert_eq!(rt; block.bytes()[511], 7);
+        block.bytes_mut()[0] = 8;
+        assert_eq!(rt; (block.bytes()[0], block.bytes()[1]), (8, 7));
         one_numeral();
         Ok(())
     }
@@ -80,6 +95,9 @@ mod tests {
         assert_eq!(rt; list.replace(2, 31), 30);
         assert_eq!(rt; list.as_slice(), [11, 21, 31].as_slice());
         assert_eq!(rt; list.remove(0), 11);
+        list.insert(0, 12);
+        assert_eq!(rt; list.as_slice(), [12, 21, 31].as_slice());
+        assert_eq!(rt; list.remove(0), 12);
         assert_eq!(rt; list.get(0), Some(&21));
         assert_eq!(rt; list.get(2), None);
         assert_eq!(rt; list.pop(), Some(31));

@@ -1,10 +1,24 @@
+ghost use Rattle.std.specs.Prelude.{◌≡◌};
+
 use std::alloc::{AllocError, AllocFailed};
+use std::marker::Model;
 
 /// One of the two nodes of the pair.
 #[derive(Clone, Copy, Debug, PartialEq, Eq)]
 pub enum Node {
     A,
     B,
+}
+
+/// How the nodes share a logical unit.
+#[derive(Clone, Copy, Debug, PartialEq, Eq)]
+pub enum Ha {
+    /// There is one node, A.
+    None,
+    /// Node B begins the block commands that came to it, each when A has granted it.
+    Serialise,
+    /// Node A executes every command, and B passes on what comes to it.
+    Transfer,
 }
 
 /// An I_T nexus (SAM-5, 3.1): an initiator, seen through a port. Both numbers are below 16.
@@ -22,9 +36,65 @@ pub struct LunNo(pub u8);
 #[derive(Clone, Copy, Debug, PartialEq, Eq)]
 pub struct Tag(pub u32);
 
-/// The number that a logical unit gives a work at its arrival, from 1.
+/// The number that a logical unit gives a work at its arrival, from 1. Contracts see it as a number.
 #[derive(Clone, Copy, Debug, PartialEq, Eq)]
-pub struct CmdNo(pub u32);
+pub struct CmdNo(u32);
+
+impl Model for CmdNo {
+    ghost use Rattle.std.specs.Prelude.{ℕ};
+
+    ghost Value = { ℕ };
+
+    ghost view = { λ c. c.0 };
+
+    ghost inverse = { λ n. record { 0 = n } };
+}
+
+impl CmdNo {
+    pub fn new(number: u32) -> CmdNo
+        ensures { result ≡ number }
+    {
+        CmdNo(number)
+    }
+
+    pub fn number(self) -> u32
+        ensures { result ≡ self }
+    {
+        self.0
+    }
+}
+
+/// The room that is reserved for the works of a logical unit.
+#[derive(Clone, Copy, Debug, PartialEq, Eq)]
+pub struct Room {
+    /// How many commands can come.
+    pub commands: u32,
+    /// How many task management functions can come.
+    pub functions: u32,
+    /// How many block operations all these commands can make together.
+    pub pieces: u32,
+}
+
+/// A unit attention condition (SAM-5, 5.14), by its additional sense code and qualifier.
+#[derive(Clone, Copy, Debug, PartialEq, Eq)]
+pub enum Code {
+    /// 29/00: power on, reset or bus device reset
+    Reset,
+    /// 29/01: power on
+    PowerOn,
+    /// 29/07: I_T nexus loss
+    NexusLoss,
+    /// 2A/01: mode parameters changed
+    ModeChanged,
+    /// 2A/03: reservations preempted
+    ReservationsPreempted,
+    /// 2A/04: reservations released
+    ReservationsReleased,
+    /// 2A/05: registrations preempted
+    RegistrationsPreempted,
+    /// 2F/00: commands cleared by another initiator
+    CommandsCleared,
+}
 
 /// Memory ran out.
 #[derive(Clone, Copy, Debug, PartialEq, Eq)]

@@ -1,4 +1,4 @@
-ghost use Rattle.std.specs.Prelude.{◌≡◌, ◌+◌, ◌-◌, ◌<◌, ◌≤◌, ◌==◌, ◌^◌, [], ◌∷◌, ◌++◌, length, slice_get, slice_set, remove, IfOk};
+ghost use Rattle.std.specs.Prelude.{◌≡◌, ◌+◌, ◌-◌, ◌<◌, ◌≤◌, ◌==◌, ◌^◌, [], ◌∷◌, ◌++◌, length, slice_get, slice_set, insert, remove, IfOk};
 ghost use Rattle.std.specs.Option.{option_copied};
 ghost use Rattle.std.specs.Borrow.{sem};
 ghost use Rattle.ct_word.specs.Kept.{Pops};
@@ -73,6 +73,16 @@ impl<T> Reserve<T> {
         ensures { self.new ≡ record { items = self.old.items ++ item ∷ []; room = self.old.room - 1 } }
     {
         self.list.push_reserved(item);
+    }
+
+    /// Puts an item before the one at a place, or last.
+    pub fn insert(&mut self, at: usize, item: T)
+        requires within { at ≤ length self.old.items }
+        requires room { 0 < self.old.room }
+        ensures { self.new ≡ record { items = insert self.old.items at item; room = self.old.room - 1 } }
+    {
+        self.list.push_reserved(item);
+        self.list[at..].rotate_right(1);
     }
 
     /// Takes off the last item, if there is one.

@@ -1,0 +1,24 @@
+-- I_T nexuses, and sets of them (SAM-5, 3.1).
+use Rattle.std.specs.Prelude.{ℕ, ◌+◌, ◌*◌, ◌<◌, List, Bool, true, false, ◌&&◌, ◌==◌, replicate, slice_index_or, slice_set}
+use Rattle.ct_word.specs.declared.names.Nexus.{Nexus}
+
+-- both numbers are below 16
+pub record IsNexus (nexus : Nexus) : Type 0 where
+  pub port : nexus.port < 16
+  pub init : nexus.init < 16
+
+abbrev pub is_same_nexus : Nexus → Nexus → Bool
+is_same_nexus a b = (a.port == b.port) && (a.init == b.init)
+
+-- a set tells of each of the 256 nexuses, at its place, whether it is in the set
+abbrev pub place_of : Nexus → ℕ
+place_of nexus = nexus.port * 16 + nexus.init
+
+unfoldable pub no_nexuses : List Bool
+no_nexuses = replicate 256 false
+
+abbrev pub contains : List Bool → Nexus → Bool
+contains set nexus = slice_index_or set (place_of nexus) false
+
+abbrev pub with_nexus : List Bool → Nexus → List Bool
+with_nexus set nexus = slice_set set (place_of nexus) true

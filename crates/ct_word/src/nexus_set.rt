@@ -1,0 +1,54 @@
+ghost use Rattle.std.specs.Prelude.{◌≡◌, ◌+◌, ◌*◌};
+ghost use Rattle.ct_word.specs.Nexuses.{IsNexus, no_nexuses, place_of, contains, with_nexus};
+
+use crate::names::Nexus;
+use std::marker::Model;
+
+/// A set of the 256 I_T nexuses, of fixed size. Contracts see it as the list of what is told of each.
+#[derive(Clone, Copy, Debug, PartialEq, Eq)]
+pub struct NexusSet {
+    flags: [bool; 256],
+}
+
+impl Model for NexusSet {
+    ghost use Rattle.std.specs.Prelude.{List, Bool};
+
+    ghost Value = { List Bool };
+
+    ghost view = { λ s. s.flags };
+
+    ghost inverse = { λ flags. record { flags = flags } };
+}
+
+impl NexusSet {
+    /// The empty set.
+    #[tactic(auto, unfolding(crate::specs::Nexuses::no_nexuses))]
+    pub fn open() -> NexusSet
+        ensures { result ≡ no_nexuses }
+    {
+        NexusSet {
+            flags: [false; 256],
+        }
+    }
+
+    pub fn has(&self, n: Nexus) -> bool
+        requires { IsNexus n }
+        ensures { result ≡ contains self.now n }
+    {
+        self.flags[place_of(n)]
+    }
+
+    pub fn add(&mut self, n: Nexus)
+        requires { IsNexus n }
+        ensures { self.new ≡ with_nexus self.old n }
+    {
+        self.flags[place_of(n)] = true;
+    }
+}
+
+fn place_of(n: Nexus) -> usize
+    requires { IsNexus n }
+    ensures { result ≡ place_of n }
+{
+    usize::from(n.port) * 16 + usize::from(n.init)
+}
