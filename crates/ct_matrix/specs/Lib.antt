@@ -1,0 +1,4 @@
+pub mod Extents
+pub mod Matrix
+pub mod Conflicts
+pub mod Queues
