@@ -15,6 +15,7 @@ use Rattle.ct_cdb.specs.Index.{index_of}
 use Rattle.ct_tmf.specs.declared.function.Ask.{Ask}
 use Rattle.ct_matrix.specs.Extents.{Print, no_print, footprint_of}
 use Rattle.ct_matrix.specs.Conflicts.{is_head}
+use Rattle.ct_matrix.specs.declared.held.Held.{Held}
 use Rattle.ct_matrix.specs.Queues.{HeldCommand, TaskSet}
 use Rattle.ct_book.specs.declared.work.Command.{Command}
 use Rattle.ct_book.specs.declared.event.Kind2.{Kind2}
@@ -154,16 +155,17 @@ abbrev pub has_begun : Stage → Bool
 has_begun Waiting = false
 has_begun _ = true
 
-abbrev pub held_of : ℕ → Task → HeldCommand
-held_of blocks task = record {
-  no = task.no;
-  held = record {
-    index = index_by (cdb_of task.command.cdb);
-    print = print_by blocks (length task.command.out) (cdb_of task.command.cdb);
-    attr = task.command.attr;
-    begun = has_begun task.stage;
-  };
+-- a command, begun or not, as the table of conflicts sees it, on a disk of so many blocks
+abbrev pub held_by : ℕ → Command → Bool → Held
+held_by blocks command begun = record {
+  index = index_by (cdb_of command.cdb);
+  print = print_by blocks (length command.out) (cdb_of command.cdb);
+  attr = command.attr;
+  begun = begun;
 }
+
+abbrev pub held_of : ℕ → Task → HeldCommand
+held_of blocks task = record { no = task.no; held = held_by blocks task.command (has_begun task.stage) }
 
 abbrev pub task_set_of : State → TaskSet
 task_set_of s = record {
