@@ -1,6 +1,6 @@
 -- What the journal of a logical unit owes, whatever the schedule.
 use Rattle.std.specs.Prelude.{◌≡◌, ◌≢◌, ℕ, ◌+◌, ◌*◌, ◌≤◌, List, [], ◌∷◌, ◌++◌, length, take, drop, Bool, true, false, not, ◌&&◌, ◌||◌, ◌==◌, if◌then◌else◌, Option, None, Some, is_some, slice_get}
-use Rattle.std.specs.List.{list_any, filter, sum_by}
+use Rattle.std.specs.List.{list_any, filter}
 use Rattle.ct_word.specs.Nexuses.{contains}
 use Rattle.ct_tmf.specs.declared.function.Ask.{Ask}
 use Rattle.ct_tmf.specs.Reaches.{hits}
@@ -73,7 +73,8 @@ made_at wanted (event.Moved number count) = if number == wanted then count else 
 made_at wanted _ = 0
 
 abbrev pub made_by : ℕ → List Logged → ℕ
-made_by wanted journal = sum_by (λ (logged : Logged). made_at wanted logged.event) journal
+made_by wanted [] = 0
+made_by wanted (logged ∷ journal) = made_at wanted logged.event + made_by wanted journal
 
 abbrev pub work_in : ℕ → List Logged → Option KeptWork
 work_in number journal = numbered number (works_in journal)

@@ -1,6 +1,6 @@
 -- The state of one logical unit with its two nodes. Which node a command runs at, and the messages between the
 -- nodes, are this project's own; the task set and its functions are those of SAM-5.
-use Rattle.std.specs.Prelude.{ℕ, ◌-◌, List, [], ◌∷◌, ◌++◌, length, map, Bool, true, false, ◌==◌, if◌then◌else◌, Option, Result, Ok, Err}
+use Rattle.std.specs.Prelude.{ℕ, ◌-◌, List, [], ◌∷◌, ◌++◌, length, map, Bool, true, false, not, ◌==◌, if◌then◌else◌, Option, Result, Ok, Err}
 use Rattle.std.specs.List.{find, sum_by}
 use Rattle.ct_word.specs.declared.names.Ha.{Ha}
 use Rattle.ct_word.specs.declared.names.Node.{Node}
@@ -152,8 +152,7 @@ print_by blocks out (Ok cdb) = footprint_of out blocks cdb.op
 print_by blocks out (Err fault) = no_print
 
 abbrev pub has_begun : Stage → Bool
-has_begun Waiting = false
-has_begun _ = true
+has_begun stage = not (is_waiting stage)
 
 -- a command, begun or not, as the table of conflicts sees it, on a disk of so many blocks
 abbrev pub held_by : ℕ → Command → Bool → Held
@@ -181,7 +180,7 @@ free_blocks s = s.pool - sum_by (λ (task : Task). need_in (length s.blocks) tas
 -- a new command's place (SAM-5, clause 8): HEAD OF QUEUE right before the first that waits, any other last
 abbrev pub before_waiting : Task → List Task → List Task
 before_waiting new [] = new ∷ []
-before_waiting new (task ∷ tasks) = if has_begun task.stage then task ∷ before_waiting new tasks else new ∷ task ∷ tasks
+before_waiting new (task ∷ tasks) = if is_waiting task.stage then new ∷ task ∷ tasks else task ∷ before_waiting new tasks
 
 abbrev pub queued : Task → List Task → List Task
 queued new tasks = if is_head new.command.attr then before_waiting new tasks else tasks ++ new ∷ []
