@@ -1,1 +1,4 @@
 pub mod Tasks
+pub mod Journal
+pub mod Growing
+pub mod Messages

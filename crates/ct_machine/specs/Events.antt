@@ -254,8 +254,17 @@ came_to_a kind.Finish number s = is_over number s
 came_to_a kind.Stopped number s = is_over number s
 came_to_a _ number s = s
 
+-- a granted command begins at B
+abbrev pub begun_at_b : Stage → Task → State → State
+begun_at_b Granted task s = record s { tasks = with_task (at_stage (There 0 []) task) s.tasks }
+begun_at_b _ task s = s
+
+abbrev pub after_grant : Option Task → State → State
+after_grant None s = s
+after_grant (Some task) s = begun_at_b task.stage task s
+
 abbrev pub came_to_b : Kind2 → ℕ → State → State
-came_to_b kind.Grant number s = staged (There 0 []) (task_of number s.tasks) s
+came_to_b kind.Grant number s = after_grant (task_of number s.tasks) s
 came_to_b _ number s = s
 
 abbrev pub after_deliver : Node → Kind2 → ℕ → State → State
