@@ -1,6 +1,6 @@
 -- The state after an event. The state changes by events alone.
 use Rattle.std.specs.Prelude.{ℕ, ◌+◌, ◌-◌, List, [], ◌∷◌, ◌++◌, length, take, drop, map, Bool, true, false, not, ◌&&◌, ◌==◌, nat_lt, if◌then◌else◌, Option, None, Some}
-use Rattle.std.specs.List.{filter}
+use Rattle.std.specs.List.{filter, list_any}
 use Rattle.ct_word.specs.declared.names.Node.{Node}
 use Rattle.ct_word.specs.declared.names.Node.TheVariants.{A, B}
 use Rattle.ct_word.specs.Nexuses.{is_same_nexus, contains}
@@ -75,7 +75,7 @@ after_came number node (Some came) s =
 -- a command enters the task set
 
 abbrev pub new_task : ℕ → Node → Command → Task
-new_task number node command = record { no = number; node = node; command = command; stage = Waiting; is_stopped = false }
+new_task number node command = record { no = number; node = node; command = command; stage = Waiting }
 
 abbrev pub entered : ℕ → Node → KeptWork → State → State
 entered number node (work.Cmd command) s = record s { tasks = queued (new_task number node command) s.tasks }
@@ -186,17 +186,15 @@ abbrev pub is_told : State → Ask → Task → Bool
 is_told s ask task = tells_aborts s.control && not (is_same_nexus ask.nexus task.command.nexus)
 
 -- a stop goes to B for a command of B that is cut at A, and for one that is there, unless one was sent
-abbrev pub wants_stop : Ask → Task → Bool
-wants_stop ask task = is_hit ask task && (if is_here task.stage then is_b task.node else not task.is_stopped)
+abbrev pub wants_stop : State → Ask → Task → Bool
+wants_stop s ask task =
+    is_hit ask task && (if is_here task.stage then is_b task.node else not (list_any (λ number. number == task.no) s.stopped))
 
 abbrev pub stops_by : State → ℕ → Ask → List Task → List Message
 stops_by s by ask [] = []
 stops_by s by ask (task ∷ tasks) =
-    if wants_stop ask task then stop task.no by (is_told s ask task) ∷ stops_by s by ask tasks
+    if wants_stop s ask task then stop task.no by (is_told s ask task) ∷ stops_by s by ask tasks
     else stops_by s by ask tasks
-
-abbrev pub stopped_by : Ask → Task → Task
-stopped_by ask task = if is_awaited ask task then record task { is_stopped = true } else task
 
 -- the open functions, the lowest number first
 abbrev pub with_function : Open → List Open → List Open
@@ -207,7 +205,7 @@ abbrev pub taken_up : ℕ → Ask → State → State
 taken_up number ask s = record s {
   functions = with_function (record { no = number; ask = ask; awaits = awaited_by ask s.tasks; cut = [] }) s.functions;
   to_b = s.to_b ++ stops_by s number ask s.tasks;
-  tasks = map (stopped_by ask) s.tasks;
+  stopped = s.stopped ++ awaited_by ask s.tasks;
 }
 
 abbrev pub asked_for : ℕ → KeptWork → State → State

@@ -33,13 +33,12 @@ pub data Stage : Type 0 where
   There : (done : ℕ) (got : List ℕ) → Stage
   Over : Stage
 
--- a command of the task set (SAM-5, 4.10): its number, the node at which it came, and whether a stop was sent
+-- a command of the task set (SAM-5, 4.10): its number, and the node at which it came
 pub record Task : Type 0 where
   pub no : ℕ
   pub node : Node
   pub command : Command
   pub stage : Stage
-  pub is_stopped : Bool
 
 -- a task management function that isn't answered yet, the commands that it awaits, and those that it cut
 pub record Open : Type 0 where
@@ -62,7 +61,8 @@ pub record Arrival : Type 0 where
 
 -- the state: how the nodes share the unit, how many commands the task set holds, the blocks of the pool, the room
 -- that is left for works; the works by number; the task set in queue order; the open functions, the lowest number
--- first; the messages to each node, the oldest first; control and blocks of the disk
+-- first; the messages to each node, the oldest first; the commands for which a stop was sent; control and blocks of the
+-- disk
 pub record State : Type 0 where
   pub ha : Ha
   pub depth : ℕ
@@ -73,6 +73,7 @@ pub record State : Type 0 where
   pub functions : List Open
   pub to_a : List Message
   pub to_b : List Message
+  pub stopped : List ℕ
   pub control : ControlState
   pub blocks : List (List ℕ)
 
@@ -88,6 +89,7 @@ opened o = record {
   functions = [];
   to_a = [];
   to_b = [];
+  stopped = [];
   control = opening_control o.lun;
   blocks = (opening_disk o.lun o.blocks).blocks;
 }
