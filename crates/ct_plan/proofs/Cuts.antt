@@ -1,5 +1,5 @@
 -- A plan in pieces, and as a whole.
-use Rattle.std.proofs.Common.{◌≡◌, ℕ, zero, suc, ◌+◌, ◌*◌, ◌≤◌, Bool, true, false, ◌&&◌, List, [], ◌∷◌, ◌++◌, length, length-append, sum, Option, None, take, drop, set, get_or, refl, sym, ap, ◌∙◌, arith, append_assoc, append-nil, drop-drop, take-append-drop, drop-set-lt, leb-true, add-zero}
+use Rattle.std.proofs.Common.{◌≡◌, ℕ, zero, suc, ◌+◌, ◌*◌, ◌≤◌, Bool, true, false, ◌&&◌, List, [], ◌∷◌, ◌++◌, length, length-append, sum, None, take, drop, set, get_or, refl, sym, ap, ◌∙◌, arith, append_assoc, append-nil, drop-drop, take-append-drop, drop-set-lt, leb-true, add-zero}
 use Rattle.std.proofs.Math.Seq.{take-add}
 use Rattle.std.specs.List.{concat}
 use Rattle.std.proofs.lemmas.List.Sums.{sum_by-cons}
@@ -10,7 +10,7 @@ use Rattle.ct_cdb.specs.declared.op.Op.TheVariants.{Read10, Write10}
 use Rattle.ct_plan.specs.declared.operation.BlockOp.{BlockOp}
 use Rattle.ct_cdb.specs.Performed.{is_performed, is_inside}
 use Rattle.ct_plan.specs.Plans.{gets, puts, plan_of}
-use Rattle.ct_plan.specs.Cells.{Cells, Progress, out_block, after, after_all, performed, joined, in_pieces}
+use Rattle.ct_plan.specs.Cells.{Cells, out_block, after_all, performed, joined, in_pieces}
 use Rattle.ct_plan.proofs.Lists.{after_all-append, performed-all}
 use Rattle.ct_plan.specs.Effects.{Disk, blocks_of, spliced, written_disk, data_in}
 
@@ -25,7 +25,7 @@ all_pieces out [] operations cells = refl
 all_pieces out (size ∷ sizes) operations cells =
     let piece = performed out (take size operations) cells in
     let cut : take (sum (size ∷ sizes)) operations ≡ take size operations ++ take (sum sizes) (drop size operations) =
-        ap (λ n. take n operations) (sum_by-cons (λ n. n) size sizes) ∙ take-add size (sum sizes) operations in
+    ap (λ n. take n operations) (sum_by-cons (λ n. n) size sizes) ∙ take-add size (sum sizes) operations in
     ap (joined piece) (all_pieces out sizes (drop size operations) piece.cells)
     ∙ sym (performed-append out (take size operations) (take (sum sizes) (drop size operations)) cells)
     ∙ ap (λ all. performed out all cells) (sym cut)

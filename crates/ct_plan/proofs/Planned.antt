@@ -1,19 +1,18 @@
 -- What the plan of a command asks of the data-out and the disk, and that a task can begin with it.
-use Rattle.std.proofs.Common.{◌≡◌, ℕ, zero, suc, ◌+◌, ◌*◌, ◌<◌, ◌≤◌, Bool, true, false, ◌&&◌, not, nat_le, ltb-false, sym, subst, List, [], ◌∷◌, length, drop, refl, arith, leb-true, nat_lt, if◌then◌else◌}
+use Rattle.std.proofs.Common.{◌≡◌, ℕ, zero, suc, ◌+◌, ◌*◌, ◌≤◌, Bool, true, false, ◌&&◌, not, nat_le, ltb-false, sym, subst, List, [], refl, arith, leb-true, nat_lt, if◌then◌else◌}
 use Rattle.std.specs.List.{All}
 use Rattle.std.proofs.lemmas.List.Elements.{All-nil, All-cons}
 use Rattle.std.proofs.lemmas.Bool.{false≢true}
-use Rattle.ct_word.specs.Kept.{Kept}
 use Rattle.ct_cdb.specs.declared.op.Op.{Op}
 use Rattle.ct_cdb.specs.declared.op.Op.TheVariants.{Read10, Write10}
 use Rattle.ct_cdb.specs.Performed.{is_performed}
 use Rattle.ct_cdb.specs.Asked.{asked_of}
-use Rattle.ct_pool.specs.Leases.{PoolState, LeaseState, IsLeaseOf}
+use Rattle.ct_pool.specs.Leases.{PoolState, IsLeaseOf}
 use Rattle.ct_plan.specs.declared.operation.BlockOp.{BlockOp}
 use Rattle.ct_plan.specs.declared.operation.BlockOp.TheVariants as operations
 use Rattle.ct_plan.specs.declared.task.Task.{Task}
-use Rattle.ct_plan.specs.Plans.{operations_of, gets, puts, plan_of, need_of, gets_among}
-use Rattle.ct_plan.specs.Tasks.{IsReady, IsInside, IsCovered, left}
+use Rattle.ct_plan.specs.Plans.{operations_of, gets, puts, plan_of, gets_among}
+use Rattle.ct_plan.specs.Tasks.{IsReady, IsInside, IsCovered}
 
 gets_inside : (blocks lba count : ℕ) → lba + count ≤ blocks → All (IsInside blocks) (gets lba count)
 gets_inside blocks lba zero within = All-nil (IsInside blocks)

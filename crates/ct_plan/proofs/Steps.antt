@@ -1,20 +1,20 @@
 -- What one operation does, and a piece of several.
-use Rattle.std.proofs.Common.{◌≡◌, ◌≢◌, ℕ, zero, suc, ◌+◌, ◌-◌, ◌*◌, ◌<◌, ◌≤◌, min, List, [], ◌∷◌, ◌++◌, length, take, drop, set, get_or, slice_get, Option, None, Some, Bool, true, false, is_some, cond, option_map, ◌==◌, if◌then◌else◌, rules, refl, sym, ap, ◌∙◌, subst, arith, add-one, length-take, take-take, length-append, length-set}
+use Rattle.std.proofs.Common.{◌≡◌, ℕ, zero, suc, ◌+◌, ◌-◌, ◌*◌, ◌<◌, ◌≤◌, List, [], ◌∷◌, ◌++◌, length, take, drop, set, get_or, slice_get, Option, None, Some, Bool, true, false, is_some, cond, option_map, ◌==◌, if◌then◌else◌, rules, refl, sym, ap, ◌∙◌, subst, arith, add-one, length-take, take_all, length-append, length-set}
 use Rattle.std.specs.List.{All}
 use Rattle.std.proofs.lemmas.List.Sums.{sum_by-set}
 use Rattle.ct_word.specs.Kept.{Kept}
-use Rattle.ct_pool.specs.Leases.{PoolState, LeaseState, IsLeaseOf, KeepsOthers, leases_out, blocks_of, with_block}
+use Rattle.ct_pool.specs.Leases.{PoolState, LeaseState, IsLeaseOf, blocks_of, with_block}
 use Rattle.ct_pool.proofs.Leases.{IsLeaseOf-with_block, KeepsOthers-with_block}
 use Rattle.ct_plan.specs.declared.operation.BlockOp.{BlockOp}
 use Rattle.ct_plan.specs.declared.operation.BlockOp.TheVariants as operations
 use Rattle.ct_plan.specs.declared.task.Task.{Task}
-use Rattle.ct_plan.specs.declared.task.PieceEnd.{PieceEnd}
-use Rattle.ct_plan.specs.declared.task.PieceEnd.TheVariants.{All as AllDone, ReadFault, WriteFault}
+use Rattle.ct_plan.specs.declared.task.Piece.{Piece}
+use Rattle.ct_plan.specs.declared.task.PieceEnd.TheVariants.{All as AllDone}
 use Rattle.ct_plan.specs.Plans.{gets_among}
 use Rattle.ct_plan.specs.Cells.{Cells, out_block, after_all, performed}
-use Rattle.ct_plan.specs.Tasks.{IsReady, IsInside, IsCovered, left, asked, cells_of}
-use Rattle.ct_plan.specs.Pieces.{Makes, Uses, Advances, fault_of, is_fault, fault_behind, fault_in, unfailed_end, end_of, reached}
-use Rattle.ct_plan.proofs.Lists.{slice_get-drop, slice_get-take, slice_get-within, take-one_more, drop-at, gets_among-cons, gets_among-append, after_all-append, performed-all, all_made}
+use Rattle.ct_plan.specs.Tasks.{IsReady, IsInside, IsCovered, left, cells_of}
+use Rattle.ct_plan.specs.Pieces.{Makes, Uses, Advances, fault_of, fault_behind, unfailed_end}
+use Rattle.ct_plan.proofs.Lists.{slice_get-drop, slice_get-within, take-one_more, drop-at, gets_among-cons, gets_among-append, after_all-append, performed-all}
 
 module _ (out : List ℕ) (old : Task) (before : List (List ℕ)) where
   pub makes_nothing : Makes out [] old old before before
@@ -184,3 +184,24 @@ module _ (out : List ℕ) (pieces : List BlockOp) (old new : Task) (before after
       is_there : (failed : BlockOp) → fault_behind count (Some (fault_of failed)) ≡ Some count
       is_there (operations.Get lba) = refl
       is_there (operations.Put lba place) = refl
+
+-- what a caller learns of a piece, whether a fault ended it or not
+module _ (out : List ℕ) (pieces : List BlockOp) (old new : Task) (before after : List (List ℕ)) (piece : Piece) where
+  pub moved_all : Advances out pieces old new before after piece None → piece.moved ≡ length pieces
+  moved_all advanced = advanced.moved ∙ ap (λ p. p.made) (performed-all out pieces (cells_of before old))
+
+  pub moved_within : (fault : Option ℕ) → Advances out pieces old new before after piece fault → piece.moved ≤ length pieces
+  moved_within None advanced = omega (arith, moved_all advanced)
+  moved_within (Some place) advanced = omega (arith, advanced.moved, advanced.within)
+
+  pub cells_moved : (fault : Option ℕ) → Advances out pieces old new before after piece fault → cells_of after new ≡ after_all out (take piece.moved pieces) (cells_of before old)
+  cells_moved None advanced =
+      let far = performed-all out pieces (cells_of before old) in
+      let all : take piece.moved pieces ≡ pieces = ap (λ n. take n pieces) (moved_all advanced) ∙ take_all (length pieces) pieces (omega arith) in
+      ap (λ bs. record { blocks = bs; got = new.body.items }) advanced.blocks
+      ∙ ap (λ items. record { blocks = (performed out pieces (cells_of before old)).cells.blocks; got = items }) advanced.got
+      ∙ ap (λ p. p.cells) far ∙ ap (λ ops. after_all out ops (cells_of before old)) (sym all)
+  cells_moved (Some place) advanced =
+      ap (λ bs. record { blocks = bs; got = new.body.items }) advanced.blocks
+      ∙ ap (λ items. record { blocks = (after_all out (take place pieces) (cells_of before old)).blocks; got = items }) advanced.got
+      ∙ ap (λ n. after_all out (take n pieces) (cells_of before old)) (sym advanced.moved)

@@ -1,5 +1,5 @@
 -- What a piece of a plan does: some of its operations, one after another.
-use Rattle.std.specs.Prelude.{◌≡◌, ℕ, ◌+◌, ◌*◌, ◌<◌, ◌==◌, Bool, true, false, List, [], length, take, slice_get, Option, None, Some, IfSome, option_map, if◌then◌else◌}
+use Rattle.std.specs.Prelude.{◌≡◌, ℕ, ◌+◌, ◌*◌, ◌<◌, ◌==◌, Bool, true, false, List, length, take, slice_get, Option, None, Some, IfSome, option_map, if◌then◌else◌}
 use Rattle.ct_pool.specs.Leases.{PoolState, LeaseState, IsLeaseOf, KeepsOthers, leases_out}
 use Rattle.ct_plan.specs.declared.operation.BlockOp.{BlockOp}
 use Rattle.ct_plan.specs.declared.operation.BlockOp.TheVariants as operations
@@ -16,16 +16,18 @@ abbrev pub fault_of : BlockOp → PieceEnd
 fault_of (operations.Get lba) = ReadFault lba
 fault_of (operations.Put lba place) = WriteFault lba
 
+-- the medium failed an operation
 abbrev pub is_fault : PieceEnd → Bool
 is_fault All = false
 is_fault (ReadFault lba) = true
 is_fault (WriteFault lba) = true
 
--- where a piece of so many operations ended in a fault, the place of the one that the medium failed
+-- the place of the operation that the medium failed, where a piece of so many ended in a fault
 abbrev pub fault_behind : ℕ → Option PieceEnd → Option ℕ
 fault_behind moved None = None
 fault_behind moved (Some end) = if is_fault end then Some moved else None
 
+-- the place, among those asked for, of the operation at which a piece ended in a fault
 abbrev pub fault_in : Piece → Option ℕ
 fault_in piece = fault_behind piece.moved piece.end
 

@@ -20,7 +20,8 @@ pub fn whole()
         is_performed (length out) (length disk) op ≡ true →
         performed out (plan_of (length out) (length disk) op) (record { blocks = disk; got = [] })
         ≡ record {
-            made = length (plan_of (length out) (length disk) op);
-            difference = None;
-            cells = record { blocks = written_disk op out disk; got = data_in op disk } } }
+          made = length (plan_of (length out) (length disk) op);
+          difference = None;
+          cells = record { blocks = written_disk op out disk; got = data_in op disk };
+        } }
 {}

@@ -33,12 +33,7 @@ fn get<B: Backend>(
 }
 
 // Puts a block of the data-out by way of a leased block.
-fn put<B: Backend>(
-    lba: u32,
-    bytes: &[u8],
-    block: &mut Block,
-    medium: &mut B,
-) -> Result<(), Failed>
+fn put<B: Backend>(lba: u32, bytes: &[u8], block: &mut Block, medium: &mut B) -> Result<(), Failed>
     requires inside { lba < length (B.blocks medium.old) }
     requires whole { length bytes.now ≡ 512 }
     ensures put { OnOk result (B.blocks medium.new ≡ slice_set (B.blocks medium.old) lba bytes.now) }

@@ -2,6 +2,7 @@ ghost use Rattle.std.specs.Prelude.{◌≡◌, ◌*◌, ◌<◌, ◌≤◌, true
 ghost use Rattle.std.specs.Bool.{OnTrue, OnFalse};
 ghost use Rattle.ct_cdb.specs.Asked.{asked_of};
 ghost use Rattle.ct_pool.specs.Leases.{leases_out};
+ghost use Rattle.ct_plan.specs.Tasks.{IsReady};
 
 use super::*;
 use ct_cdb::Op;
@@ -100,8 +101,40 @@ impl Backend for Failing {
     }
 }
 
-// Performs a command in pieces of so many blocks, as far as the medium lets it: how many operations were made, how the
-// last piece ended, and the data.
+// Makes pieces of so many blocks, as far as the medium lets it: how many operations are done, and how the last piece ended.
+fn make_pieces<B: Backend>(
+    t: &mut Task,
+    out: &[u8],
+    blocks: u32,
+    pool: &mut Pool,
+    medium: &mut B,
+) -> Piece
+    requires { IsReady (length out.now) (length (B.blocks medium.old)) pool.old t.old }
+    ensures ready { IsReady (length out.now) (length (B.blocks medium.new)) pool.new t.new }
+    ensures lease { t.new.lease ≡ t.old.lease }
+    ensures leases { leases_out pool.new ≡ leases_out pool.old }
+    ensures contexts { pool.new.contexts ≡ pool.old.contexts }
+    ensures size { length (B.blocks medium.new) ≡ length (B.blocks medium.old) }
+{
+    for _ in 0..t.plan.length() {
+        if t.done >= t.plan.length() {
+            break;
+        }
+        let piece = advance(t, out, blocks, pool, medium);
+        if piece.end.is_some() {
+            return Piece {
+                moved: t.done,
+                end: piece.end,
+            };
+        }
+    }
+    Piece {
+        moved: t.done,
+        end: None,
+    }
+}
+
+// Performs a command in pieces of so many blocks: how many operations were made, how the last piece ended, and the data.
 fn perform<B: Backend>(
     op: &Op,
     out: &[u8],
@@ -118,37 +151,26 @@ fn perform<B: Backend>(
     ensures contexts { pool.new.contexts ≡ pool.old.contexts }
 {
     let plan = Plan::of(op, out, medium.len());
-    let lease = match pool.take(plan.need()) {
-        Some(lease) => lease,
-        None => return None,
-    };
-    let mut t = Task {
-        plan,
-        lease,
-        body,
-        done: 0,
-    };
-    let mut last = Piece {
-        moved: 0,
-        end: None,
-    };
-    for _ in 0..t.plan.length() {
-        if last.end.is_none() && t.done < t.plan.length() {
-            let piece = advance(&mut t, out, blocks, pool, medium);
-            last = Piece {
-                moved: t.done,
-                end: piece.end,
+    match pool.take(plan.need()) {
+        Some(lease) => {
+            let mut t = Task {
+                plan,
+                lease,
+                body,
+                done: 0,
             };
+            let last = make_pieces(&mut t, out, blocks, pool, medium);
+            let Task {
+                plan: _,
+                lease,
+                body,
+                done: _,
+            } = t;
+            pool.give(lease);
+            Some((last, body))
         }
+        None => None,
     }
-    let Task {
-        plan: _,
-        lease,
-        body,
-        done: _,
-    } = t;
-    pool.give(lease);
-    Some((last, body))
 }
 
 const WRITE: Op = Op::Write10 { lba: 1, count: 2 };
@@ -178,28 +200,19 @@ fn written_and_read(
 }
 
 #[test]
-fn makes_one_operation_at_a_time(rt: HostRuntime) -> Result<(), Fail> {
-    let (written, read, data_in) =
-        written_and_read(rt.alloc(), 1)?.expect(&rt, "two blocks are free");
-    assert_eq!(rt; (written.moved, written.end), (2, ALL));
-    assert_eq!(rt; (read.moved, read.end), (2, ALL));
-    assert!(rt; data_in.len() == 1024);
-    let (ones, twos) = data_in.as_slice().split_at(512);
-    assert_eq!(rt; ones, [1; 512].as_slice());
-    assert_eq!(rt; twos, [2; 512].as_slice());
-    Ok(())
-}
-
-#[test]
-fn makes_all_operations_at_once(rt: HostRuntime) -> Result<(), Fail> {
-    let (written, read, data_in) =
-        written_and_read(rt.alloc(), 9)?.expect(&rt, "two blocks are free");
-    assert_eq!(rt; (written.moved, written.end), (2, ALL));
-    assert_eq!(rt; (read.moved, read.end), (2, ALL));
-    assert!(rt; data_in.len() == 1024);
-    let (ones, twos) = data_in.as_slice().split_at(512);
-    assert_eq!(rt; ones, [1; 512].as_slice());
-    assert_eq!(rt; twos, [2; 512].as_slice());
+fn does_the_same_in_any_pieces(rt: HostRuntime) -> Result<(), Fail> {
+    for blocks in [1, 9] {
+        let (written, read, data_in) = written_and_read(rt.alloc(), blocks)?.expect(
+            &rt,
+            "two blocks are free",
+        );
+        assert_eq!(rt; (written.moved, written.end), (2, ALL));
+        assert_eq!(rt; (read.moved, read.end), (2, ALL));
+        assert!(rt; data_in.len() == 1024);
+        let (ones, twos) = data_in.as_slice().split_at(512);
+        assert_eq!(rt; ones, [1; 512].as_slice());
+        assert_eq!(rt; twos, [2; 512].as_slice());
+    }
     Ok(())
 }
 

@@ -1,10 +1,9 @@
-use Rattle.std.proofs.Common.{◌≡◌, ◌+◌, ◌*◌, ◌≤◌, ℕ, suc, [], ◌∷◌, length, take, drop, Bool, true, false, Result, Ok, Err, is_err, OnOk, OnErr, sym, ap, ◌∙◌, subst, arith, take-take, length-take, length-drop}
+use Rattle.std.proofs.Common.{◌≡◌, ◌+◌, ◌≤◌, suc, length, take, drop, true, false, Result, Ok, Err, is_err, OnOk, OnErr, sym, ap, ◌∙◌, subst, arith, take-take, length-take, length-drop}
 use Rattle.std.specs.Prelude.{min}
 use Rattle.std.proofs.lemmas.List.{take_min}
-use Rattle.ct_plan.specs.declared.operation.BlockOp.{BlockOp}
 use Rattle.ct_plan.specs.Plans.{gets_among}
 use Rattle.ct_plan.specs.Tasks.{left, asked}
-use Rattle.ct_plan.specs.Pieces.{Makes, Uses, Advances}
+use Rattle.ct_plan.specs.Pieces.{Makes, Uses}
 use Rattle.ct_plan.proofs.Lists.{drop-at, gets_among-cons, slice_get-take}
 use Rattle.ct_plan.proofs.Steps.{next_of_left, makes_one_more, uses_both, ready_behind, advances_whole, advances_fault}
 use Rattle.ct_plan.proofs.pieces.advance.Goals as goal

@@ -1,5 +1,5 @@
 -- What was made before this pass.
-use Rattle.std.proofs.Common.{◌≡◌, ◌<◌, ◌≤◌, ◌^◌, length, take}
+use Rattle.std.proofs.Common.{◌<◌, ◌≤◌, ◌^◌, length, take}
 use Rattle.ct_plan.specs.Tasks.{IsReady, left}
 use Rattle.ct_plan.specs.Pieces.{Makes, Uses}
 use Rattle.ct_plan.proofs.pieces.advance.Given as goal
