@@ -1,2 +1,5 @@
 pub mod Ranged
-pub mod Pieces
+pub mod Lists
+pub mod Steps
+pub mod Cuts
+pub mod Planned

@@ -1,5 +1,5 @@
 -- What block operations do, one after another.
-use Rattle.std.specs.Prelude.{ℕ, suc, ◌*◌, List, [], ◌∷◌, ◌++◌, Option, None, Some, take, drop, slice_set, slice_index_or}
+use Rattle.std.specs.Prelude.{ℕ, suc, ◌+◌, ◌*◌, List, [], ◌∷◌, ◌++◌, Option, None, Some, take, drop, slice_set, slice_index_or}
 use Rattle.ct_plan.specs.declared.operation.BlockOp.{BlockOp}
 use Rattle.ct_plan.specs.declared.operation.BlockOp.TheVariants as operations
 
@@ -48,3 +48,18 @@ abbrev pub performed : List ℕ → List BlockOp → Cells → Progress
 performed out [] cells = record { made = 0; difference = None; cells = cells }
 performed out (operation ∷ others) cells =
     unless (difference_at out operation cells) cells (performed out others (after out operation cells))
+
+abbrev pub joined_where : Option ℕ → Progress → Progress → Progress
+joined_where None first next = record next { made = first.made + next.made }
+joined_where (Some offset) first next = first
+
+-- a piece, and behind it the next one where it found no difference
+abbrev pub joined : Progress → Progress → Progress
+joined first next = joined_where first.difference first next
+
+-- operations in pieces of these sizes
+abbrev pub in_pieces : List ℕ → List ℕ → List BlockOp → Cells → Progress
+in_pieces out [] operations cells = record { made = 0; difference = None; cells = cells }
+in_pieces out (size ∷ sizes) operations cells =
+    let piece = performed out (take size operations) cells in
+    joined piece (in_pieces out sizes (drop size operations) piece.cells)

@@ -41,3 +41,12 @@ is_put _ = false
 abbrev pub puts_among : List BlockOp → ℕ
 puts_among [] = 0
 puts_among (operation ∷ others) = if is_put operation then suc (puts_among others) else puts_among others
+
+abbrev pub is_get : BlockOp → Bool
+is_get (operations.Get lba) = true
+is_get _ = false
+
+-- how many of these operations are gets
+abbrev pub gets_among : List BlockOp → ℕ
+gets_among [] = 0
+gets_among (operation ∷ others) = if is_get operation then suc (gets_among others) else gets_among others

@@ -90,7 +90,8 @@ impl Plan {
     /// The operation behind the first `done` ones.
     pub fn next(&self, done: u32) -> BlockOp
         requires { done < length self.now.operations }
-        ensures { slice_get self.now.operations done ≡ Some result }
+        ensures value { slice_get self.now.operations done ≡ Some result }
+        ensures leased { done < self.now.need }
     {
         let lba = self.lba + done;
         match self.work {

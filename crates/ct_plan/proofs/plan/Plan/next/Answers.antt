@@ -7,12 +7,22 @@ overflow_add-lba c =
     let within = rw (← c.self.view_is) at c.requires in
     omega (arith, within, length-range c.self.inside.work c.self.inside.lba c.self.inside.count)
 
-pub returns-in-Gets : goal.returns-in-Gets
-returns-in-Gets c =
+pub returns-in-Gets-clause-value : goal.returns-in-Gets-clause-value
+returns-in-Gets-clause-value c =
     let within = rw (← c.self.view_is) at c.requires in
     rw (← c.self.view_is, c.in-Gets.is) (gets_at c.self.inside.lba c.self.inside.count c.args.done (omega (arith, within, length-range c.self.inside.work c.self.inside.lba c.self.inside.count)))
 
-pub returns-in-Puts : goal.returns-in-Puts
-returns-in-Puts c =
+pub returns-in-Puts-clause-value : goal.returns-in-Puts-clause-value
+returns-in-Puts-clause-value c =
     let within = rw (← c.self.view_is) at c.requires in
     rw (← c.self.view_is, c.in-Puts.is) (puts_at c.self.inside.lba c.self.inside.count c.args.done (omega (arith, within, length-range c.self.inside.work c.self.inside.lba c.self.inside.count)))
+
+pub returns-in-Gets-clause-leased : goal.returns-in-Gets-clause-leased
+returns-in-Gets-clause-leased c =
+    let within = rw (← c.self.view_is) at c.requires in
+    rw (← c.self.view_is) (omega (arith, within, length-range c.self.inside.work c.self.inside.lba c.self.inside.count))
+
+pub returns-in-Puts-clause-leased : goal.returns-in-Puts-clause-leased
+returns-in-Puts-clause-leased c =
+    let within = rw (← c.self.view_is) at c.requires in
+    rw (← c.self.view_is) (omega (arith, within, length-range c.self.inside.work c.self.inside.lba c.self.inside.count))

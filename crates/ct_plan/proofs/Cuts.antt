@@ -1,7 +1,8 @@
 -- A plan in pieces, and as a whole.
-use Rattle.std.proofs.Common.{◌≡◌, ℕ, zero, suc, ◌+◌, ◌*◌, ◌≤◌, Bool, true, false, ◌&&◌, List, [], ◌∷◌, ◌++◌, length, take, drop, set, get_or, refl, sym, ap, ◌∙◌, arith, append_assoc, append-nil, drop-drop, take-append-drop, drop-set-lt, leb-true, add-zero}
+use Rattle.std.proofs.Common.{◌≡◌, ℕ, zero, suc, ◌+◌, ◌*◌, ◌≤◌, Bool, true, false, ◌&&◌, List, [], ◌∷◌, ◌++◌, length, length-append, sum, None, take, drop, set, get_or, refl, sym, ap, ◌∙◌, arith, append_assoc, append-nil, drop-drop, take-append-drop, drop-set-lt, leb-true, add-zero}
 use Rattle.std.proofs.Math.Seq.{take-add}
 use Rattle.std.specs.List.{concat}
+use Rattle.std.proofs.lemmas.List.Sums.{sum_by-cons}
 use Rattle.std.proofs.lemmas.List.{drop_more, take_more_set}
 use Rattle.std.proofs.lemmas.Bool.{false≢true}
 use Rattle.ct_cdb.specs.declared.op.Op.{Op}
@@ -9,17 +10,25 @@ use Rattle.ct_cdb.specs.declared.op.Op.TheVariants.{Read10, Write10}
 use Rattle.ct_plan.specs.declared.operation.BlockOp.{BlockOp}
 use Rattle.ct_cdb.specs.Performed.{is_performed, is_inside}
 use Rattle.ct_plan.specs.Plans.{gets, puts, plan_of}
-use Rattle.ct_plan.specs.Cells.{Cells, out_block, after, after_all}
+use Rattle.ct_plan.specs.Cells.{Cells, out_block, after_all, performed, joined, in_pieces}
+use Rattle.ct_plan.proofs.Lists.{after_all-append, performed-all}
 use Rattle.ct_plan.specs.Effects.{Disk, blocks_of, spliced, written_disk, data_in}
 
-after_all-append : (out : List ℕ) (xs ys : List BlockOp) (cells : Cells) → after_all out (xs ++ ys) cells ≡ after_all out ys (after_all out xs cells)
-after_all-append out [] ys cells = refl
-after_all-append out (x ∷ xs) ys cells = after_all-append out xs ys (after out x cells)
+performed-append : (out : List ℕ) (xs ys : List BlockOp) (cells : Cells) → performed out (xs ++ ys) cells ≡ joined (performed out xs cells) (performed out ys (performed out xs cells).cells)
+performed-append out xs ys cells =
+    rw (performed-all out (xs ++ ys) cells, performed-all out xs cells, performed-all out ys (after_all out xs cells))
+    (ap (λ n. record { made = n; difference = None; cells = after_all out (xs ++ ys) cells }) (length-append xs ys)
+    ∙ ap (λ cs. record { made = length xs + length ys; difference = None; cells = cs }) (after_all-append out xs ys cells))
 
-pub two_pieces : (out : List ℕ) (operations : List BlockOp) (cells : Cells) (first more : ℕ) → after_all out (take more (drop first operations)) (after_all out (take first operations) cells) ≡ after_all out (take (first + more) operations) cells
-two_pieces out operations cells first more =
-    sym (after_all-append out (take first operations) (take more (drop first operations)) cells)
-    ∙ ap (λ all. after_all out all cells) (sym (take-add first more operations))
+pub all_pieces : (out sizes : List ℕ) (operations : List BlockOp) (cells : Cells) → in_pieces out sizes operations cells ≡ performed out (take (sum sizes) operations) cells
+all_pieces out [] operations cells = refl
+all_pieces out (size ∷ sizes) operations cells =
+    let piece = performed out (take size operations) cells in
+    let cut : take (sum (size ∷ sizes)) operations ≡ take size operations ++ take (sum sizes) (drop size operations) =
+    ap (λ n. take n operations) (sum_by-cons (λ n. n) size sizes) ∙ take-add size (sum sizes) operations in
+    ap (joined piece) (all_pieces out sizes (drop size operations) piece.cells)
+    ∙ sym (performed-append out (take size operations) (take (sum sizes) (drop size operations)) cells)
+    ∙ ap (λ all. performed out all cells) (sym cut)
 
 -- the cells of a disk and these data
 abbrev cells_of : Disk → List ℕ → Cells
@@ -66,3 +75,9 @@ pub whole_plan : (op : Op) (out : List ℕ) (disk : Disk) → is_performed (leng
 unfolding plan_of
 whole_plan (Read10 lba count) out disk h = rw h (all_got out disk [] lba count (leb-true _ _ (inside (length out) (length disk) (Read10 lba count) h)))
 whole_plan (Write10 lba count) out disk h = rw h (all_put out disk [] lba 0 count (leb-true _ _ (inside (length out) (length disk) (Write10 lba count) h)))
+
+pub whole_progress : (op : Op) (out : List ℕ) (disk : Disk) → is_performed (length out) (length disk) op ≡ true
+    → performed out (plan_of (length out) (length disk) op) (cells_of disk []) ≡ record { made = length (plan_of (length out) (length disk) op); difference = None; cells = cells_of (written_disk op out disk) (data_in op disk) }
+whole_progress op out disk h =
+    performed-all out (plan_of (length out) (length disk) op) (cells_of disk [])
+    ∙ ap (λ cs. record { made = length (plan_of (length out) (length disk) op); difference = None; cells = cs }) (whole_plan op out disk h)

@@ -1,0 +1,18 @@
+-- What was made before this pass.
+use Rattle.std.proofs.Common.{◌<◌, ◌≤◌, ◌^◌, length, take}
+use Rattle.ct_plan.specs.Tasks.{IsReady, left}
+use Rattle.ct_plan.specs.Pieces.{Makes, Uses}
+use Rattle.ct_plan.proofs.pieces.advance.Given as goal
+
+abbrev pub invariant-loop-moved : goal.invariant-loop-moved
+invariant-loop-moved g l =
+    let blocks = g.B.Backend.blocks in
+    let faults = g.B.Backend.faults in
+    record {
+      made : Makes l.out (take l.moved (left l.initial.t)) l.initial.t l.t (blocks l.initial.medium) (blocks l.medium);
+      used : Uses l.initial.pool l.pool l.initial.t.lease;
+      ready : IsReady (length l.out) (length (blocks l.medium)) l.pool l.t;
+      later : faults l.initial.medium ≤ faults l.medium;
+      count : l.count ≤ length (left l.initial.t);
+      small : length l.initial.t.plan.operations < 2 ^ 32;
+    }
