@@ -160,7 +160,7 @@ books_turns journal works queue to_a x stage e h hx t mine old = record {
     by : {P : Type 0} (y : Task) → Has (with_task (at_stage stage x) queue) y → (Has queue y → (y.no ≡ x.no → ⊥) → P) → (at_stage stage x ≡ y → P) → P
     by y m f g = ⊎_elim g (λ (o : Has queue y × (y.no ≡ x.no → ⊥)). f o.0 o.1) (has_with (at_stage stage x) queue y m)
 
-    still : (y : Task) → Has queue y → (y.no ≡ x.no → ⊥) → Quiet y.no e
+    still : (y : Task) → Has queue y → (y.no ≡ x.no → ⊥) → Quiet y.no e.event
     still y k ne = quiet y.no e.event (λ o. ⊎_elim (λ (a : x.no ≡ y.no). ne (sym a)) (λ (f : (z : Task) → Has queue z → z.no ≡ y.no → ⊥). f y k refl) (mine y.no o))
 
 -- another stage with no event
