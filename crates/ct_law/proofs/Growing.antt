@@ -1,9 +1,8 @@
 -- What a journal says, when it grows by one event.
-use Rattle.std.proofs.Common.{◌≡◌, ℕ, zero, suc, ◌+◌, ◌≤◌, ◌<◌, Bool, true, false, List, [], ◌∷◌, ◌++◌, Option, Some, None, length, refl, sym, ap, ◌∙◌, subst, append_assoc, append-nil, cond, slice_get, map, arith}
+use Rattle.std.proofs.Common.{◌≡◌, ℕ, zero, suc, ◌+◌, ◌≤◌, List, [], ◌∷◌, ◌++◌, Option, Some, None, length, refl, sym, ap, ◌∙◌, append_assoc, append-nil, slice_get, map, arith}
 use Rattle.std.specs.List.{cons_option}
 use Rattle.std.proofs.lemmas.List.Elements.{filter_map-append}
 use Rattle.std.proofs.lemmas.Option.{slice_get_within}
-use Rattle.ct_book.specs.declared.event.Event.{Event}
 use Rattle.ct_book.specs.declared.event.Logged.{Logged}
 use Rattle.ct_book.specs.Journals.{KeptWork, works_in, numbered}
 use Rattle.ct_exec.specs.Controls.{Disk, opening_disk}

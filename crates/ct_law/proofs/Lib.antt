@@ -4,3 +4,4 @@ pub mod Growing
 pub mod Messages
 pub mod Books
 pub mod Orders
+pub mod Opens
