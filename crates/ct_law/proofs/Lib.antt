@@ -4,4 +4,10 @@ pub mod Growing
 pub mod Messages
 pub mod Books
 pub mod Orders
+pub mod Blocks
+pub mod Laws
+pub mod Held
+pub mod Execs
+pub mod Ready
+pub mod Ends
 pub mod Opens

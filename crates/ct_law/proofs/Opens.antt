@@ -17,17 +17,10 @@ use Rattle.ct_machine.specs.States.{Task, Stage, Waiting, Here, Granted, There, 
 use Rattle.ct_machine.specs.Events.{is_hit, noted, awaits_no_more, without_function, with_function}
 use Rattle.ct_machine.specs.Laws.{has, is_entry, is_begin, is_enter, is_asked, comes_first}
 use Rattle.ct_law.proofs.Tasks.{Has}
+use Rattle.ct_law.proofs.Held.{is_active}
 use Rattle.ct_law.proofs.Journal.{has_stays, has_not, cut_more, first_stays, first_has, Untouched}
 use Rattle.ct_law.proofs.Growing.{numbered_front, numbered_older}
 use Rattle.ct_law.proofs.Messages.{is_end, Sent, IsStop, stop_append}
-
--- begun, and with no entry
-abbrev pub is_active : Stage → Bool
-is_active Waiting = false
-is_active (Here done gained) = true
-is_active Granted = true
-is_active (There done gained) = true
-is_active Over = false
 
 -- at B, and not over
 abbrev pub is_remote : Stage → Bool
