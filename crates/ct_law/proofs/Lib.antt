@@ -11,3 +11,5 @@ pub mod Execs
 pub mod Ready
 pub mod Ends
 pub mod Opens
+pub mod Inv
+pub mod Steps
