@@ -13,3 +13,4 @@ pub mod Ends
 pub mod Opens
 pub mod Inv
 pub mod Steps
+pub mod Entries
