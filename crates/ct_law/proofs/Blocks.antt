@@ -1,5 +1,5 @@
 -- Operations on two lists of blocks that agree where they go.
-use Rattle.std.proofs.Common.{◌≡◌, ℕ, zero, suc, ◌+◌, ◌≤◌, ◌<◌, Bool, true, false, not, ◌||◌, List, [], ◌∷◌, ◌++◌, Option, Some, None, length, take, drop, slice_index_or, slice_set, refl, sym, ap, ◌∙◌, subst, ⊎_elim, arith, nat_eq, eqb-true, eq-eqb, cond}
+use Rattle.std.proofs.Common.{◌≡◌, ℕ, zero, suc, ◌+◌, ◌≤◌, ◌<◌, Bool, true, false, ◌||◌, List, [], ◌∷◌, ◌++◌, Option, Some, None, length, take, slice_index_or, slice_set, refl, sym, ap, ◌∙◌, subst, ⊎_elim, arith, nat_eq, eq-eqb, cond}
 use Rattle.std.proofs.lemmas.Bool.{cases_eq, cases_lt, or_cases, or_parts, or_left, or_right, both_ways, or_from}
 use Rattle.std.proofs.lemmas.List.{length-set, get_or-set_same, get_or-set_other, set_past}
 use Rattle.ct_plan.specs.declared.operation.BlockOp.{BlockOp}

@@ -1,7 +1,6 @@
 -- The begins, moves, ends and cuts of commands: what each leaves of the blocks.
-use Rattle.std.proofs.Common.{◌≡◌, ℕ, zero, suc, ◌+◌, ◌-◌, ◌≤◌, ◌<◌, ◌⊎◌, inl, inr, Bool, true, false, not, ◌&&◌, ◌||◌, List, [], ◌∷◌, ◌++◌, Option, Some, None, length, take, drop, map, refl, sym, ap, ◌∙◌, subst, ⊎_elim, arith, take_at}
+use Rattle.std.proofs.Common.{◌≡◌, ℕ, ◌+◌, ◌≤◌, ◌⊎◌, inl, inr, Bool, true, false, List, [], Some, None, length, take, drop, refl, sym, ap, ◌∙◌, subst, ⊎_elim, take_at}
 use Rattle.std.proofs.lemmas.Bool.{cases_Bool, both_ways}
-use Rattle.ct_sense.specs.declared.reply.Reply.{Reply}
 use Rattle.ct_plan.specs.declared.operation.BlockOp.{BlockOp}
 use Rattle.ct_plan.specs.Plans.{puts_among}
 use Rattle.ct_plan.specs.Cells.{Cells, Progress, after_all, performed}
@@ -9,16 +8,16 @@ use Rattle.ct_matrix.specs.Conflicts.{conflicts, has_to_wait, is_head}
 use Rattle.ct_book.specs.declared.work.Command.{Command}
 use Rattle.ct_exec.specs.Controls.{ControlState, Disk}
 use Rattle.ct_exec.specs.Executions.{Execution, execute, refusal_of, plan_in, reply_moved}
-use Rattle.ct_machine.specs.States.{Task, Stage, Waiting, Here, Granted, There, Over, with_task, at_stage, is_waiting, has_begun, done_at, held_of, held_by}
-use Rattle.ct_machine.specs.Events.{further}
+use Rattle.ct_machine.specs.States.{Task, State, Stage, Waiting, Here, Granted, There, Over, with_task, at_stage, is_waiting, has_begun, done_at, held_of, held_by}
+use Rattle.ct_machine.specs.Events.{further, moved_from}
 use Rattle.ct_machine.specs.Serial.{first_puts, cut_disk}
 use Rattle.ct_machine.specs.Laws.{goes_first}
 use Rattle.ct_law.proofs.Tasks.{Has, precedes}
-use Rattle.ct_law.proofs.Blocks.{cell, uses, puts, start, Like, perform_size, perform_elsewhere, perform_all, unused_put, puts_front, only_puts, first_puts_front, only_puts_blocks, after_all_size}
+use Rattle.ct_law.proofs.Blocks.{cell, puts, start, Like, perform_size, perform_elsewhere, perform_all, unused_put, puts_front, only_puts, first_puts_front, only_puts_blocks, after_all_size}
 use Rattle.ct_law.proofs.Laws.{Laws, Apart, has_operations, operated, IsOnce, Same}
 use Rattle.ct_law.proofs.Ready.{IsReady, free_of, undemanded, undemanded_must}
-use Rattle.ct_law.proofs.Held.{Uses, Running, IsRunning, IsSingle, IsAllowedBy, Holds, Rules, Moves, is_active, at_now, moves_to, rules_turn, rules_stay, not_put, turned}
-use Rattle.ct_law.proofs.Execs.{then', then_size, then_elsewhere, done_is, runs_on, seen_whole, seen_difference}
+use Rattle.ct_law.proofs.Held.{Uses, Running, IsRunning, IsSingle, Holds, Rules, is_active, moves_to, rules_turn, rules_stay, not_put, turned}
+use Rattle.ct_law.proofs.Execs.{made_all, then', then_size, then_elsewhere, done_is, runs_on, seen_whole, seen_difference}
 
 -- what a cut command has put is what its operations have put
 pub cut_blocks : (n : ℕ) (disk : Disk) (blocks : List (List ℕ)) (c : Command) (done : ℕ) (got : List ℕ) (run : Running n disk blocks c done got) → length disk.blocks ≡ n →
@@ -324,3 +323,16 @@ moved_held n disk blocks tasks x count done got h single hx at e =
       own = λ k. absurd (both_ways _ k a');
       whole = λ k. refl;
     })
+
+-- the state after an event that counts the operations that were made
+pub moved_is : (x : Task) (count done : ℕ) (got : List ℕ) (s : State) →
+    moved_from x (performed x.command.out (take count (drop done (plan_in (length s.blocks) x.command))) (record { blocks = s.blocks; got = got })).made done got s
+    ≡ record s {
+      tasks = with_task (at_stage (further x.stage (then' (length s.blocks) s.blocks x.command count done got).made (then' (length s.blocks) s.blocks x.command count done got).cells.got) x) s.tasks;
+      blocks = (then' (length s.blocks) s.blocks x.command count done got).cells.blocks;
+    }
+moved_is x count done got s =
+    let ops : List BlockOp = drop done (plan_in (length s.blocks) x.command) in
+    let here : Cells = record { blocks = s.blocks; got = got } in
+    let p : Progress = performed x.command.out (take count ops) here in
+    ap (λ (cells : Cells). record s { tasks = with_task (at_stage (further x.stage (done + p.made) cells.got) x) s.tasks; blocks = cells.blocks }) (sym (made_all x.command.out count ops here))

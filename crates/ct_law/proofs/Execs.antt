@@ -1,6 +1,7 @@
 -- What the whole command does, against its operations one at a time.
-use Rattle.std.proofs.Common.{◌≡◌, ℕ, zero, suc, ◌+◌, ◌-◌, ◌≤◌, ◌<◌, min, Bool, true, false, List, [], ◌∷◌, ◌++◌, Option, Some, None, length, take, drop, refl, sym, ap, ◌∙◌, subst, ⊎_elim, arith, append_assoc, take_at, drop_at, take-append-drop, length-append, length-take, length-drop, append-nil}
+use Rattle.std.proofs.Common.{◌≡◌, ℕ, zero, suc, ◌+◌, ◌≤◌, ◌<◌, true, false, List, [], ◌∷◌, ◌++◌, Option, Some, None, length, take, drop, slice_get, refl, sym, ap, ◌∙◌, subst, ⊎_elim, arith, append_assoc, drop_at, take-append-drop, length-append, length-take, append-nil}
 use Rattle.std.proofs.lemmas.List.{take-take, take_all}
+use Rattle.std.proofs.lemmas.Option.{slice_get_within}
 use Rattle.std.proofs.lemmas.Bool.{cases_lt}
 use Rattle.ct_plan.specs.declared.operation.BlockOp.{BlockOp}
 use Rattle.ct_plan.specs.Cells.{Cells, Progress, after_all, performed}
@@ -8,8 +9,8 @@ use Rattle.ct_book.specs.declared.work.Command.{Command}
 use Rattle.ct_exec.specs.Controls.{Disk}
 use Rattle.ct_exec.specs.Executions.{plan_in}
 use Rattle.ct_machine.specs.Acts.{tried}
-use Rattle.ct_law.proofs.Blocks.{cell, uses, puts, start, Agree, Like, perform_like, perform_elsewhere, perform_size, perform_on, perform_stopped, perform_done, joined, made_cells, performed_made, made_within, uses_front, uses_back, puts_front, puts_back}
-use Rattle.ct_law.proofs.Held.{Uses, Running, at_now}
+use Rattle.ct_law.proofs.Blocks.{cell, uses, puts, start, Like, perform_like, perform_elsewhere, perform_size, perform_on, perform_stopped, perform_done, joined, made_cells, performed_made, made_within, uses_front, uses_back, puts_front, puts_back}
+use Rattle.ct_law.proofs.Held.{Uses, Running}
 
 -- a command before more operations, and after them
 abbrev pub later : ℕ → Progress → Progress
@@ -36,6 +37,27 @@ made_all out k ops cells = made_cells out (take k ops) cells ∙ ap (λ l. after
 
 pub made_again : (out : List ℕ) (k : ℕ) (ops : List BlockOp) (cells : Cells) → performed out (take (performed out (take k ops) cells).made ops) cells ≡ performed out (take k ops) cells
 made_again out k ops cells = ap (λ l. performed out l cells) (sym (take_fewer (performed out (take k ops) cells).made k ops (made_within out (take k ops) cells))) ∙ performed_made out (take k ops) cells
+
+slice_get_take : (k : ℕ) (xs : List BlockOp) (i : ℕ) (x : BlockOp) → slice_get (take k xs) i ≡ Some x → slice_get xs i ≡ Some x
+slice_get_take zero xs i x e = absurd (cc)
+slice_get_take (suc k) [] i x e = e
+slice_get_take (suc k) (y ∷ ys) zero x e = e
+slice_get_take (suc k) (y ∷ ys) (suc i) x e = slice_get_take k ys i x e
+
+slice_get_drop : (d : ℕ) (xs : List BlockOp) (i : ℕ) → slice_get (drop d xs) i ≡ slice_get xs (d + i)
+slice_get_drop zero xs i = ap (slice_get xs) (omega arith)
+slice_get_drop (suc d) [] i = refl
+slice_get_drop (suc d) (y ∷ ys) i = let e : suc (d + i) ≡ suc d + i = omega arith in slice_get_drop d ys i ∙ ap (slice_get (y ∷ ys)) e
+
+-- where the medium fails an operation, it is the next of the plan
+pub failed_at : (out : List ℕ) (plan : List BlockOp) (count done fault : ℕ) (cells : Cells) (op : BlockOp) → slice_get (take count (drop done plan)) fault ≡ Some op →
+    (performed out (take fault (take count (drop done plan))) cells).difference ≡ None → slice_get plan (done + (performed out (take fault (take count (drop done plan))) cells).made) ≡ Some op
+failed_at out plan count done fault cells op e none =
+    let ops = take count (drop done plan) in
+    let made = perform_done out (take fault ops) cells none in
+    let size = length-take fault ops in
+    let within = slice_get_within ops fault op e in
+    ap (λ m. slice_get plan (done + m)) (omega (arith, made, size, within)) ∙ sym (slice_get_drop done plan fault) ∙ slice_get_take count (drop done plan) fault op e
 
 pub done_is : (n : ℕ) (disk : Disk) (blocks : List (List ℕ)) (c : Command) (done : ℕ) (got : List ℕ) (run : Running n disk blocks c done got) → length run.before ≡ done
 done_is n disk blocks c done got run = sym (run.seen.made ∙ perform_done c.out run.before (start disk.blocks) (sym run.seen.difference))

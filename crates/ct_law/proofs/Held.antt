@@ -1,10 +1,12 @@
 -- The blocks: the serial disk with the operations of the commands that have begun and have no entry.
-use Rattle.std.proofs.Common.{◌≡◌, ℕ, zero, suc, ◌+◌, ◌≤◌, ◌<◌, ◌⊎◌, inl, inr, Bool, true, false, not, ◌||◌, List, [], ◌∷◌, ◌++◌, Option, Some, None, length, take, drop, refl, sym, ap, ◌∙◌, subst, ⊎_elim, arith, nat_eq}
-use Rattle.std.proofs.lemmas.Bool.{cases_eq, cases_Bool, both_ways, false≢true}
+use Rattle.std.proofs.Common.{◌≡◌, ℕ, ◌⊎◌, Bool, true, false, List, [], ◌++◌, None, length, replicate, refl, sym, ap, ◌∙◌, subst, ⊎_elim}
+use Rattle.std.proofs.lemmas.Bool.{cases_eq, cases_Bool, both_ways}
+use Rattle.std.proofs.lemmas.List.{ext_get_or, length-replicate}
+use Rattle.ct_word.specs.declared.names.LunNo.{LunNo}
 use Rattle.ct_plan.specs.declared.operation.BlockOp.{BlockOp}
-use Rattle.ct_plan.specs.Cells.{Cells, Progress, performed}
+use Rattle.ct_plan.specs.Cells.{Progress, performed}
 use Rattle.ct_book.specs.declared.work.Command.{Command}
-use Rattle.ct_exec.specs.Controls.{ControlState, Disk}
+use Rattle.ct_exec.specs.Controls.{ControlState, Disk, opening_disk}
 use Rattle.ct_exec.specs.Executions.{refusal_of, plan_in}
 use Rattle.ct_machine.specs.States.{Task, Stage, Waiting, Here, Granted, There, Over, without_task, with_task, at_stage, queued}
 use Rattle.ct_law.proofs.Tasks.{Has, has_without, without_has, has_with, with_has, with_itself, has_queued, queued_has}
@@ -260,3 +262,17 @@ closes_held n disk blocks tasks now h = record {
   apart = h.apart;
   outside = h.outside;
 }
+
+-- where nothing is active the blocks are the serial disk's
+pub idle_same : (n : ℕ) (disk : Disk) (blocks : List (List ℕ)) (tasks : List Task) → Holds n disk blocks tasks → ((x : Task) → Has tasks x → is_active x.stage ≡ false) → blocks ≡ disk.blocks
+idle_same n disk blocks tasks h idle = ext_get_or [] blocks disk.blocks h.size (λ l w. h.outside l (λ x k b. absurd (both_ways (is_active x.stage) (idle x k) b)))
+
+-- a unit as it is opened
+pub opened_rules : (n : ℕ) (disk : Disk) → length disk.blocks ≡ n → Rules n disk disk.control []
+opened_rules n disk sized = record { sized = sized; control = refl; single = λ x y k. absurd k; allowed = λ x k. absurd k }
+
+pub opened_held : (n : ℕ) (disk : Disk) → Holds n disk disk.blocks []
+opened_held n disk = record { size = refl; running = λ x k. absurd k; apart = λ x y k. absurd k; outside = λ l none. refl }
+
+pub opened_size : (lun : LunNo) (n : ℕ) → length (opening_disk lun n).blocks ≡ n
+opened_size lun n = length-replicate n (replicate 512 0)

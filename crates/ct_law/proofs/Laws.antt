@@ -1,5 +1,5 @@
 -- What the run of the machine needs to know of the commands.
-use Rattle.std.proofs.Common.{◌≡◌, ℕ, Bool, true, false, List, [], ◌∷◌, length, Option, None, Some}
+use Rattle.std.proofs.Common.{◌≡◌, ℕ, Bool, true, false, List, [], length, Option, None, Some}
 use Rattle.ct_word.specs.declared.names.Nexus.{Nexus}
 use Rattle.ct_word.specs.Nexuses.{no_nexuses, contains}
 use Rattle.ct_sense.specs.declared.reply.Reply.{Reply}

@@ -6,9 +6,12 @@ pub mod Books
 pub mod Orders
 pub mod Blocks
 pub mod Laws
+pub mod Commands
+pub mod Ready
 pub mod Held
 pub mod Execs
-pub mod Ready
+pub mod Changed
+pub mod Cleared
 pub mod Ends
 pub mod Opens
 pub mod Inv

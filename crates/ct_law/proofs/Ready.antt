@@ -1,12 +1,12 @@
 -- What a command that is ready waits for no more.
-use Rattle.std.proofs.Common.{◌≡◌, ℕ, ◌⊎◌, inl, inr, Bool, true, false, not, ◌&&◌, ◌||◌, List, [], ◌∷◌, length, map, Option, Some, None, refl, sym, ap, ◌∙◌, subst, nat_eq, cond, eqb-true}
+use Rattle.std.proofs.Common.{◌≡◌, ℕ, inl, inr, Bool, true, false, not, ◌&&◌, ◌||◌, List, [], ◌∷◌, length, map, Option, Some, None, refl, sym, ap, ◌∙◌, subst, nat_eq, cond, eqb-true}
 use Rattle.std.proofs.lemmas.Bool.{false≢true, or_from}
 use Rattle.ct_matrix.specs.declared.held.Held.{Held}
 use Rattle.ct_matrix.specs.Conflicts.{conflicts, skips, has_to_wait, is_head, is_ordered}
-use Rattle.ct_matrix.specs.Queues.{HeldCommand, TaskSet, first_to_wait_for, blocker_of}
+use Rattle.ct_matrix.specs.Queues.{first_to_wait_for, blocker_of}
 use Rattle.ct_book.specs.declared.work.Command.{Command}
 use Rattle.ct_exec.specs.Controls.{is_unrestricted}
-use Rattle.ct_machine.specs.States.{Task, State, held_by, held_of, has_begun, task_set_of}
+use Rattle.ct_machine.specs.States.{Task, State, held_by, held_of, task_set_of}
 use Rattle.ct_machine.specs.Laws.{goes_first}
 use Rattle.ct_law.proofs.Tasks.{Has, precedes}
 use Rattle.ct_law.proofs.Laws.{Laws}
