@@ -155,7 +155,7 @@ apart_law n a b x y e = plans_apart n (length a.out) (length b.out) (cdb_of a.cd
 -- Whole
 
 -- gets and puts find no difference
-no_difference : (out : List ℕ) (ops : List BlockOp) (cells : Cells) → (performed out ops cells).difference ≡ None
+pub no_difference : (out : List ℕ) (ops : List BlockOp) (cells : Cells) → (performed out ops cells).difference ≡ None
 no_difference out [] cells = refl
 no_difference out (Get l ∷ ops) cells = no_difference out ops (after out (Get l) cells)
 no_difference out (Put l place ∷ ops) cells = no_difference out ops (after out (Put l place) cells)
