@@ -18,3 +18,4 @@ pub mod Inv
 pub mod Steps
 pub mod Entries
 pub mod Moves
+pub mod Overs

@@ -216,7 +216,7 @@ moved_so P laws o s journal x count done got h hx at = record {
   };
   holds = holds_same o journal e p.cells.blocks (with_task (at_stage stage x) s.tasks) (serial-same o journal e refl)
       (λ r. subst (λ k. Holds k (serial_disk o journal) p.cells.blocks (with_task (at_stage stage x) s.tasks)) h.frame.size
-      (moved_held n (serial_disk o journal) s.blocks s.tasks x count done got (subst (λ k. Holds k (serial_disk o journal) s.blocks s.tasks) (sym h.frame.size) (h.holds r)) h.rules.single hx at (no_difference x.command.out _ _)));
+      (moved_held n (serial_disk o journal) s.blocks s.tasks x count done got (subst (λ k. Holds k (serial_disk o journal) s.blocks s.tasks) (sym h.frame.size) (h.holds r)) h.rules.single hx at (no_difference x.command.out (take count (drop done (plan_in n x.command))) (record { blocks = s.blocks; got = got }))));
 }
   where
     n : ℕ
