@@ -19,3 +19,4 @@ pub mod Steps
 pub mod Entries
 pub mod Moves
 pub mod Overs
+pub mod Functions
