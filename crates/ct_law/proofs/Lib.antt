@@ -20,3 +20,5 @@ pub mod Entries
 pub mod Moves
 pub mod Overs
 pub mod Functions
+pub mod Runs
+pub mod Walk
