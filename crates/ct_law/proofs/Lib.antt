@@ -22,3 +22,4 @@ pub mod Overs
 pub mod Functions
 pub mod Runs
 pub mod Walk
+pub mod Turns

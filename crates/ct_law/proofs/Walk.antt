@@ -213,7 +213,7 @@ less o start s journal n node ask m ms h c gone = record {
         (λ (i : m ≡ k). inl (subst (λ j. has (is_entry j) journal ≡ true) i (over (subst (IsDue ask start) (sym i) due.2))))
         (λ (i : IsIn k ms). inr (due.0, i, due.2)) due.1
 
-none_found : (n : ℕ) (q : List Task) (x : Task) → task_of n q ≡ None → Has q x → x.no ≡ n → ⊥
+pub none_found : (n : ℕ) (q : List Task) (x : Task) → task_of n q ≡ None → Has q x → x.no ≡ n → ⊥
 none_found n [] x e h k = h
 none_found n (y ∷ ys) x e h k = go (nat_eq y.no n) refl e h (λ e' h'. none_found n ys x e' h' k)
   where
