@@ -3,7 +3,7 @@
 use Rattle.std.specs.Prelude.{ℕ, List, [], ◌∷◌, ◌++◌, Bool, true, false, not, ◌&&◌, ◌==◌, if◌then◌else◌, Option, None, Some, is_none, option_map}
 use Rattle.std.specs.List.{find}
 use Rattle.std.specs.Option.{option_map_or}
-pub use Rattle.ct_matrix.specs.declared.held.HeldCommand.{HeldCommand}
+use Rattle.ct_matrix.specs.declared.held.HeldCommand.{HeldCommand}
 use Rattle.ct_matrix.specs.Conflicts.{has_to_wait, is_head}
 
 -- what contracts see of a task set: its commands in queue order, how many it can hold, and whether
