@@ -18,7 +18,7 @@ use Rattle.ct_book.specs.declared.event.Why.TheVariants.{By, Medium}
 use Rattle.ct_book.specs.declared.event.Logged.{Logged}
 use Rattle.ct_book.specs.Journals.{KeptWork, numbered, works_in, arrived, line_of}
 use Rattle.ct_book.specs.Histories.{cut_at}
-use Rattle.ct_exec.specs.Controls.{ControlState, Disk, is_unrestricted}
+use Rattle.ct_exec.specs.Controls.{ControlState, Disk, is_unrestricted, tells_aborts}
 use Rattle.ct_machine.specs.declared.act.Opening.{Opening}
 use Rattle.ct_machine.specs.States.{Task, Stage, Waiting, Here, Granted, There, Over, Open, Message, Arrival, State, arrival_of, is_waiting, done_at, without_task, with_task, at_stage, queued, is_b}
 use Rattle.ct_machine.specs.Events.{message, to_b_if, came_at_b, answered, new_task, leaves, over_at_b, works_of}
@@ -34,6 +34,8 @@ use Rattle.ct_law.proofs.Orders.{Orders, orders_event, orders_turns, orders_remo
 use Rattle.ct_law.proofs.Opens.{Opens, IsAsked, HasOpen, WasActive, opens_came, opens_event, opens_queue, opens_a, opens_b}
 use Rattle.ct_law.proofs.Inv.{LawfulAt, Frame, Cells, Gained, Inv, Stays, got_at, told, replied, restricted_before, known_in, serial-same, beside-same, cells_event, cells_quiet}
 use Rattle.std.specs.Prelude.{nat_le}
+use Rattle.std.specs.List.{list_any}
+use Rattle.ct_machine.specs.declared.act.Answer.TheVariants as answer
 use Rattle.ct_word.specs.Nexuses.{no_nexuses}
 use Rattle.ct_word.specs.declared.names.Ha.{Ha}
 use Rattle.ct_plan.specs.declared.operation.BlockOp.{BlockOp}
@@ -43,7 +45,7 @@ use Rattle.ct_exec.specs.Executions.{Execution, execute, refusal_of, plan_in, re
 use Rattle.ct_machine.specs.States.{disk_of, task_of, held_of, task_set_of}
 use Rattle.ct_matrix.specs.Queues.{blocker_of}
 use Rattle.ct_machine.specs.Events.{after, after_ended, after_cut, after_moved, cut_at as cut_from, ended_at, executed_at_once, moved_at, moved_from, further, stops_with, staged, after_granted}
-use Rattle.ct_machine.specs.Acts.{Turn, nothing, writes, says, replies, followed, tried, moving_on, failing, failing_if, moved_to, moving_from, moving, clearing_all, ending_at_once, is_granted, beginning_at, beginning, numbers_of, blocked_by, beginning_unless, stepping_at, stepping, stepping_none, Done}
+use Rattle.ct_machine.specs.Acts.{Turn, nothing, writes, says, replies, followed, tried, moving_on, failing, failing_if, moved_to, moving_from, moving, clearing_all, ending_at_once, is_granted, beginning_at, beginning, numbers_of, blocked_by, beginning_unless, stepping_at, stepping, is_sent, Done}
 use Rattle.ct_law.proofs.Tasks.{has_found}
 use Rattle.ct_law.proofs.Laws.{Laws, has_operations, IsOnce}
 use Rattle.ct_law.proofs.Commands.{no_difference}
@@ -55,7 +57,7 @@ use Rattle.ct_law.proofs.Execs.{then', tried_take, then_size, failed_at}
 use Rattle.ct_law.proofs.Ends.{first_stage, IsAt, at_done, at_further, puts_at, moved_is}
 use Rattle.ct_law.proofs.Steps.{answers, tells_b}
 use Rattle.ct_law.proofs.Entries.{over_state, leaves_so, tells_so}
-use Rattle.ct_law.proofs.Moves.{begun_so, moved_so}
+use Rattle.ct_law.proofs.Moves.{first_event, begun_so, moved_so}
 use Rattle.ct_law.proofs.Overs.{ended_so, once_ends, medium_so}
 use Rattle.ct_law.proofs.Walk.{Now, After, NoneDue, stays_so, then_so, wrote, none_found}
 
@@ -248,3 +250,127 @@ moving_so laws o s journal x count fault done got h hx at =
     failed : (f : ℕ) (op : BlockOp) → fault ≡ Some f → slice_get operations f ≡ Some op → slice_get plan (done + progress.made) ≡ Some op
     failed f op e k = subst (λ (fl : Option ℕ). slice_get plan (done + (performed x.command.out (tried operations fl) cells).made) ≡ Some op) (sym e)
         (failed_at x.command.out plan count done f cells op k (no_difference x.command.out (take f (take count (drop done plan))) cells))
+
+-- the operations don't depend on where the command stands
+failing_alike : (x : Task) (stage : Stage) (plan : List BlockOp) (done : ℕ) (found : Option BlockOp) (s : State) → failing (at_stage stage x) plan done found s ≡ failing x plan done found s
+failing_alike x stage plan done None s = refl
+failing_alike x stage plan done (Some op) s = refl
+
+moved_alike : (x : Task) (stage : Stage) (plan : List BlockOp) (difference : Option ℕ) (ended : Bool) (done : ℕ) (got : List ℕ) (operations : List BlockOp) (fault : Option ℕ) (s : State) →
+    moved_to difference ended (at_stage stage x) plan done got operations fault s ≡ moved_to difference ended x plan done got operations fault s
+moved_alike x stage plan (Some offset) ended done got operations fault s = refl
+moved_alike x stage plan None true done got operations fault s = refl
+moved_alike x stage plan None false done got operations None s = refl
+moved_alike x stage plan None false done got operations (Some f) s = failing_alike x stage plan done (slice_get operations f) s
+
+moving_alike : (x : Task) (stage : Stage) (count : ℕ) (fault : Option ℕ) (done : ℕ) (got : List ℕ) (s : State) → moving_from (at_stage stage x) count fault done got s ≡ moving_from x count fault done got s
+moving_alike x stage count fault done got s =
+    let plan = plan_in (length s.blocks) x.command in
+    let operations = take count (drop done plan) in
+    let progress = performed x.command.out (tried operations fault) (record { blocks = s.blocks; got = got }) in
+    let first = moving_on x.no progress.made s in
+    ap (λ (t : Turn). followed first (λ z. t)) (moved_alike x stage plan progress.difference (nat_le (length plan) (done + progress.made)) (done + progress.made) progress.cells.got operations fault first.state)
+
+-- Begins
+
+after_first : (x : Task) (s : State) → task_of x.no s.tasks ≡ Some x → after s (told (event.Begun x.no)) ≡ record s { tasks = with_task (at_stage (Here 0 []) x) s.tasks }
+unfolding after
+after_first x s e = ap (λ f. staged (Here 0 []) f s) e
+
+after_granting : (x : Task) (s : State) → task_of x.no s.tasks ≡ Some x → after s (told (event.Granted x.no)) ≡ record s { tasks = with_task (at_stage Granted x) s.tasks; to_b = s.to_b ++ message kind.Grant x.no ∷ [] }
+unfolding after
+after_granting x s e = ap (λ f. record (staged Granted f s) { to_b = (staged Granted f s).to_b ++ message kind.Grant x.no ∷ [] }) e
+
+-- a command that is refused or makes no operation
+once_so : (laws : Laws) (o : Opening) (s : State) (journal : List Logged) (x : Task) → Now NoneDue o s journal → Has s.tasks x → x.stage ≡ Waiting → IsReady o.blocks (is_unrestricted s.control) x s.tasks → IsOnce (refusal_of s.control o.blocks x.command) (plan_in o.blocks x.command) →
+    After NoneDue o journal (ending_at_once x s)
+once_so laws o s journal x h hx st ready is_once =
+    subst (λ c. After NoneDue o journal (followed (writes l s) (λ ended. clearing_all x.no c (numbers_of ended.tasks) ended))) (sym cleared)
+    (then_so NoneDue o journal (writes l s) (λ ended. clearing_all x.no no_nexuses (numbers_of ended.tasks) ended)
+    (subst (λ t. After NoneDue o (journal ++ l ∷ []) t) (sym (clears_none laws x.no (numbers_of (after s l).tasks) (after s l))) (stays_so NoneDue o (after s l) (journal ++ l ∷ []) ended)))
+  where
+    a : Execution
+    a = execute (disk_of s) x.command
+
+    l : Logged
+    l = replied (event.Ended x.no) (execute (disk_of s) x.command).reply
+
+    cleared : a.cleared ≡ no_nexuses
+    cleared = laws.cleared_none (disk_of s) x.command
+
+    left : State
+    left = answered kind.Reply x.no (record s { tasks = without_task x.no s.tasks; control = a.disk.control; blocks = a.disk.blocks })
+
+    state : after s l ≡ left
+    state =
+        after_ended_at x a.reply s (found_of s.tasks x h.inv.rules.single hx) ∙ ap (λ z. ended_at z x s) st
+        ∙ ap (λ c. record left { to_b = left.to_b ++ stops_with (tells_aborts s.control) x.no c left.tasks }) cleared
+        ∙ ap (λ ms. record left { to_b = left.to_b ++ ms }) (stops_none laws (tells_aborts s.control) x.no left.tasks)
+        ∙ ap (λ ms. record left { to_b = ms }) (append-nil left.to_b)
+
+    ended : Now NoneDue o (after s l) (journal ++ l ∷ [])
+    ended = wrote NoneDue NoneDue o s left journal l h state
+        (answers NoneDue o (record s { tasks = without_task x.no s.tasks; control = a.disk.control; blocks = a.disk.blocks }) (journal ++ l ∷ []) kind.Reply x.no refl
+        (leaves_so NoneDue o s (journal ++ l ∷ []) x s.functions a.disk.control a.disk.blocks (has_now (is_entry x.no) journal l (eq-eqb x.no x.no refl))
+        (once_ends NoneDue laws o s journal x h.inv hx st ready is_once)))
+
+begin_so : (laws : Laws) (o : Opening) (s : State) (journal : List Logged) (x : Task) (count : ℕ) (fault : Option ℕ) → Now NoneDue o s journal → Has s.tasks x → x.stage ≡ Waiting → s.functions ≡ [] → IsReady o.blocks (is_unrestricted s.control) x s.tasks →
+    After NoneDue o journal (beginning (refusal_of s.control (length s.blocks) x.command) (plan_in (length s.blocks) x.command) x count fault s)
+begin_so laws o s journal x count fault h hx st none ready = go (refusal_of s.control (length s.blocks) x.command) (plan_in (length s.blocks) x.command) refl refl
+  where
+    size : length s.blocks ≡ o.blocks
+    size = h.inv.frame.size
+
+    once : IsOnce (refusal_of s.control (length s.blocks) x.command) (plan_in (length s.blocks) x.command) → After NoneDue o journal (ending_at_once x s)
+    once k = once_so laws o s journal x h hx st ready (subst (λ n. IsOnce (refusal_of s.control n x.command) (plan_in n x.command)) size k)
+
+    begins : (t : Bool) → refusal_of s.control (length s.blocks) x.command ≡ None → has_operations (plan_in (length s.blocks) x.command) ≡ true → Inv NoneDue o (record s { tasks = with_task (at_stage (first_stage t) x) s.tasks }) (journal ++ told (first_event t x.no) ∷ [])
+    begins t refused moves = begun_so NoneDue laws o s journal x t (λ f n k. k) h.inv hx st ready none (ap (λ n. refusal_of s.control n x.command) (sym size) ∙ refused) (ap (λ n. has_operations (plan_in n x.command)) (sym size) ∙ moves)
+
+    found : task_of x.no s.tasks ≡ Some x
+    found = found_of s.tasks x h.inv.rules.single hx
+
+    first : (t : Bool) → refusal_of s.control (length s.blocks) x.command ≡ None → has_operations (plan_in (length s.blocks) x.command) ≡ true → After NoneDue o journal (beginning_at t x count fault s)
+    first true refused moves = wrote NoneDue NoneDue o s _ journal (told (event.Granted x.no)) h (after_granting x s found)
+        (tells_b NoneDue o (record s { tasks = with_task (at_stage Granted x) s.tasks }) (journal ++ told (event.Granted x.no) ∷ []) (message kind.Grant x.no) refl (begins true refused moves))
+    first false refused moves =
+        let l : Logged = told (event.Begun x.no) in
+        let here : Task = at_stage (Here 0 []) x in
+        let now : State = record s { tasks = with_task here s.tasks } in
+        let begun : Now NoneDue o (after s l) (journal ++ l ∷ []) = wrote NoneDue NoneDue o s now journal l h (after_first x s found) (begins false refused moves) in
+        let has_here : Has (after s l).tasks here = subst (λ (t : State). Has t.tasks here) (sym (after_first x s found)) (with_itself here s.tasks x hx refl) in
+        then_so NoneDue o journal (writes l s) (moving_from x count fault 0 [])
+        (subst (λ (t : Turn). After NoneDue o (journal ++ l ∷ []) t) (moving_alike x (Here 0 []) count fault 0 [] (after s l)) (moving_so laws o (after s l) (journal ++ l ∷ []) here count fault 0 [] begun has_here (inl refl)))
+
+    go : (refused : Option Reply) (plan : List BlockOp) → refusal_of s.control (length s.blocks) x.command ≡ refused → plan_in (length s.blocks) x.command ≡ plan → After NoneDue o journal (beginning refused plan x count fault s)
+    go (Some r) plan er ep = once (subst (λ q. IsOnce q (plan_in (length s.blocks) x.command)) (sym er) tt)
+    go None [] er ep = once (subst (λ q. IsOnce q (plan_in (length s.blocks) x.command)) (sym er) ep)
+    go None (op ∷ ops) er ep = first (is_granted s.ha x.node) er (ap has_operations ep)
+
+-- Steps
+
+pub step_so : (laws : Laws) (o : Opening) (s : State) (journal : List Logged) (number count : ℕ) (fault : Option ℕ) → Now NoneDue o s journal → After NoneDue o journal (stepping (task_of number s.tasks) number count fault s).turn
+step_so laws o s journal number count fault h = go (task_of number s.tasks) refl
+  where
+    away : (t : Bool) → After NoneDue o journal (cond {A = Done} t (record { turn = nothing s; answer = answer.Away number }) (record { turn = nothing s; answer = answer.Gone })).turn
+    away true = stays_so NoneDue o s journal h
+    away false = stays_so NoneDue o s journal h
+
+    ready : (x : Task) → Has s.tasks x → x.stage ≡ Waiting → (blocked : Option ℕ) → blocked_by s.functions s x ≡ blocked → After NoneDue o journal (beginning_unless blocked x count fault s).turn
+    ready x hx st (Some by) e = stays_so NoneDue o s journal h
+    ready x hx st None e = free s.functions refl e
+      where
+        free : (fs : List Open) → s.functions ≡ fs → blocked_by fs s x ≡ None → After NoneDue o journal (beginning (refusal_of s.control (length s.blocks) x.command) (plan_in (length s.blocks) x.command) x count fault s)
+        free [] none e = begin_so laws o s journal x count fault h hx st none (subst (λ n. IsReady n (is_unrestricted s.control) x s.tasks) h.inv.frame.size (ready_in s x e))
+        free (f ∷ fs) none e = absurd (cc)
+
+    at : (x : Task) → Has s.tasks x → (stage : Stage) → x.stage ≡ stage → After NoneDue o journal (stepping_at stage x count fault s).turn
+    at x hx Waiting st = ready x hx st (blocked_by s.functions s x) refl
+    at x hx (Here done got) st = moving_so laws o s journal x count fault done got h hx (inl st)
+    at x hx Granted st = stays_so NoneDue o s journal h
+    at x hx (There done got) st = moving_so laws o s journal x count fault done got h hx (inr st)
+    at x hx Over st = stays_so NoneDue o s journal h
+
+    go : (found : Option Task) → task_of number s.tasks ≡ found → After NoneDue o journal (stepping found number count fault s).turn
+    go None e = away (list_any (is_sent number) s.to_a)
+    go (Some x) e = at x (has_found number s.tasks x e).0 x.stage refl
