@@ -220,27 +220,28 @@ journal-add works replies events came node has =
     let same = same-journal works works' replies replies' 0 0 events kept_works kept_replies has.in_order has.settled in
     let found : numbered (length works + 1) works' ≡ Some came = numbered-last (length works + 1) works came (omega arith) in
     let as_last : logged_with works' replies' event ≡ last = rw found in
-    let count : length works ≡ length (works_in journal) = ap length has.come in
-    (map-append (logged_with works' replies') events (event ∷ []) ∙ ap (λ l. logged_all works' replies' events ++ l ∷ []) as_last ∙ ap (λ l. l ++ last ∷ []) same,
-     record {
-       in_order = numbered-push 0 journal last (length works + 1) (omega arith) has.in_order (refl, refl);
-       come = ap (λ l. l ++ came ∷ []) has.come ∙ sym (works-push journal last);
-       settled = settled-push 0 journal last (length works) (omega arith) has.settled tt;
-     })
+    let count : length works ≡ length (works_in journal) = ap length has.come in (
+      map-append (logged_with works' replies') events (event ∷ []) ∙ ap (λ l. logged_all works' replies' events ++ l ∷ []) as_last ∙ ap (λ l. l ++ last ∷ []) same,
+      record {
+        in_order = numbered-push 0 journal last (length works + 1) (omega arith) has.in_order (refl, refl);
+        come = ap (λ l. l ++ came ∷ []) has.come ∙ sym (works-push journal last);
+        settled = settled-push 0 journal last (length works) (omega arith) has.settled tt;
+      },
+    )
 
 pub kept-push : (works : List KeptWork) (bodies : List (Option (Kept ℕ))) (came : KeptWork) (body : Option (Kept ℕ)) → length bodies ≡ length works → AreKept works bodies → IsKept came body → AreKept (works ++ came ∷ []) (bodies ++ body ∷ [])
 kept-push works bodies came body n all one i d b hw hb =
     elim (get-push works came i d hw) [
-      inl old_w ↦ elim (get-push bodies body i b hb) [
-        inl old_b ↦ all i d b old_w old_b
-      | inr w ↦ absurd (omega (arith, slice_get_within works i d old_w))
+      | inl old_w ↦ elim (get-push bodies body i b hb) [
+        | inl old_b ↦ all i d b old_w old_b
+        | inr w ↦ absurd (omega (arith, slice_get_within works i d old_w))
       ]
-    | inr new_w ↦ elim (get-push bodies body i b hb) [
-        inl old_b ↦ absurd (omega (arith, slice_get_within bodies i b old_b))
-      | inr new_b ↦
-          let P : KeptWork → Type 0 = λ x. IsKept x b in
-          let Q : Option (Kept ℕ) → Type 0 = λ x. IsKept came x in
-          subst P new_w.1 (subst Q new_b.1 one)
+      | inr new_w ↦ elim (get-push bodies body i b hb) [
+        | inl old_b ↦ absurd (omega (arith, slice_get_within bodies i b old_b))
+        | inr new_b ↦
+            let P : KeptWork → Type 0 = λ x. IsKept x b in
+            let Q : Option (Kept ℕ) → Type 0 = λ x. IsKept came x in
+            subst P new_w.1 (subst Q new_b.1 one)
       ]
     ]
 
@@ -251,9 +252,11 @@ given (suc before) works P h = omega arith
 
 pub journal-answer : (works : List KeptWork) (replies : List (Option Reply)) (events : List Event) (number : ℕ) (reply : Reply) → HasJournal works (logged_all works replies events) → 0 < number → reply_in replies number ≡ None → logged_all works (slice_set replies (number - 1) (Some reply)) events ≡ logged_all works replies events
 journal-answer works replies events number reply has one without =
-    same-journal works works replies (slice_set replies (number - 1) (Some reply)) 0 0 events (keeps-same (λ n. numbered n works)) (record { stays = λ other item h.
-      let apart : other ≡ number → ⊥ = λ e. let same : reply_in replies other ≡ reply_in replies number = ap (reply_in replies) e in absurd (none-some item (sym without ∙ sym same ∙ h)) in
-      ap (option_and_then (λ reply. reply)) (numbered-apart other replies number (Some reply) one apart) ∙ h }) has.in_order has.settled
+    same-journal works works replies (slice_set replies (number - 1) (Some reply)) 0 0 events (keeps-same (λ n. numbered n works)) (record {
+      stays = λ other item h.
+          let apart : other ≡ number → ⊥ = λ e. let same : reply_in replies other ≡ reply_in replies number = ap (reply_in replies) e in absurd (none-some item (sym without ∙ sym same ∙ h)) in
+          ap (option_and_then (λ reply. reply)) (numbered-apart other replies number (Some reply) one apart) ∙ h;
+    }) has.in_order has.settled
 
 body_at : (works : List KeptWork) (bodies : List (Option (Kept ℕ))) (i : ℕ) (came : KeptWork) → length bodies ≡ length works → slice_get works i ≡ Some came → (body : Option (Kept ℕ)) × (slice_get bodies i ≡ Some body)
 body_at works bodies i came n h =
@@ -269,11 +272,11 @@ nexus_of (work.Ask ask) (Some body) kept = tt
 pub kept-take : (works : List KeptWork) (bodies : List (Option (Kept ℕ))) (k : ℕ) → length bodies ≡ length works → AreKept works bodies → AreKept works (slice_set bodies k None)
 kept-take works bodies k n all i d b hw hb =
     elim (get-write bodies k None i b hb) [
-      inl old ↦ all i d b hw old
-    | inr w ↦
-        let was = body_at works bodies i d n hw in
-        let P : Option (Kept ℕ) → Type 0 = λ x. IsKept d x in
-        subst P w.1 (nexus_of d was.0 (all i d was.0 hw was.1))
+      | inl old ↦ all i d b hw old
+      | inr w ↦
+          let was = body_at works bodies i d n hw in
+          let P : Option (Kept ℕ) → Type 0 = λ x. IsKept d x in
+          subst P w.1 (nexus_of d was.0 (all i d was.0 hw was.1))
     ]
 
 pub nexus-place : (works : List KeptWork) (bodies : List (Option (Kept ℕ))) (place : ℕ) → length bodies ≡ length works → AreKept works bodies → IfSome (slice_get works place) HasNexus
@@ -298,9 +301,10 @@ pub untaken : (bodies : List (Option (Kept ℕ))) (number : ℕ) → numbered nu
 untaken bodies zero h = absurd cc
 untaken bodies (suc before) h =
     let e : slice_get (map is_some bodies) before ≡ option_map is_some (slice_get bodies before) = slice_get-map is_some bodies before in
-    let within : before < length (map (λ (b : Option (Kept ℕ)). is_some b) bodies) = slice_get_within (map is_some bodies) before true h in
-    (omega arith,
-     omega (arith, within, length-map bodies (λ (b : Option (Kept ℕ)). is_some b)),
-     λ body found.
-       let at : slice_get bodies before ≡ Some body = rw sub-one at found in
-       same_Some _ _ (ap (option_map is_some) (sym at) ∙ sym e ∙ h))
+    let within : before < length (map (λ (b : Option (Kept ℕ)). is_some b) bodies) = slice_get_within (map is_some bodies) before true h in (
+      omega arith,
+      omega (arith, within, length-map bodies (λ (b : Option (Kept ℕ)). is_some b)),
+      λ body found.
+          let at : slice_get bodies before ≡ Some body = rw sub-one at found in
+          same_Some _ _ (ap (option_map is_some) (sym at) ∙ sym e ∙ h),
+    )

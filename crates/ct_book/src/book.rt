@@ -31,14 +31,14 @@ impl Model for Book {
     ghost Value = { BookState };
 
     ghost view = { λ b. record {
-        journal = logged_all b.works.items b.replies.items b.events.items;
-        works = b.works.items;
-        replies = b.replies.items;
-        untaken = map is_some b.bodies.items;
-        commands = b.commands;
-        functions = b.functions;
-        pieces = b.pieces;
-        spare = b.events.room;
+      journal = logged_all b.works.items b.replies.items b.events.items;
+      works = b.works.items;
+      replies = b.replies.items;
+      untaken = map is_some b.bodies.items;
+      commands = b.commands;
+      functions = b.functions;
+      pieces = b.pieces;
+      spare = b.events.room;
     } };
 
     ghost invariant = { λ b. IsBook b.events b.works b.bodies b.replies b.commands b.functions };

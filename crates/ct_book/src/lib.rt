@@ -3,6 +3,7 @@
 
 mod book;
 mod event;
+mod history;
 mod work;
 
 pub use book::Book;
