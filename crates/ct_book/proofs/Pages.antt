@@ -308,3 +308,12 @@ untaken bodies (suc before) h =
           let at : slice_get bodies before ≡ Some body = rw sub-one at found in
           same_Some _ _ (ap (option_map is_some) (sym at) ∙ sym e ∙ h),
     )
+
+-- the place of an arrival
+pub fresh-last : (works : List KeptWork) (bodies : List (Option (Kept ℕ))) (replies : List (Option Reply)) (came : KeptWork) (body : Option (Kept ℕ)) (number : ℕ) → length bodies ≡ length works → length replies ≡ length works → number ≡ length works + 1 → is_some body ≡ is_command came
+    → (numbered number (works ++ came ∷ []) ≡ Some came) × (reply_in (replies ++ None ∷ []) number ≡ None) × (numbered number (map is_some (bodies ++ body ∷ [])) ≡ Some (is_command came))
+fresh-last works bodies replies came body number n m e same =
+    let size = length-map bodies (λ (b : Option (Kept ℕ)). is_some b) in
+    (numbered-last number works came (omega arith),
+     ap (option_and_then (λ reply. reply)) (numbered-last number replies None (omega arith)),
+     rw map-append (numbered-last number (map is_some bodies) (is_some body) (omega arith) ∙ ap Some same))

@@ -123,6 +123,12 @@ IsKept came (Some body) = IsBodyOf came body
 abbrev pub AreKept : List KeptWork → List (Option (Kept ℕ)) → Type 0
 AreKept works bodies = (place : ℕ) (came : KeptWork) (body : Option (Kept ℕ)) → slice_get works place ≡ Some came → slice_get bodies place ≡ Some body → IsKept came body
 
+-- a work that has just come under a number: no reply stands, and a command's empty list wasn't taken
+pub record IsFresh (book : BookState) (number : ℕ) (came : KeptWork) : Type 0 where
+  pub work : numbered number book.works ≡ Some came
+  pub reply : reply_of book number ≡ None
+  pub body : numbered number book.untaken ≡ Some (is_command came)
+
 -- what is true of every book
 pub record IsSound (book : BookState) : Type 0 where
   pub in_order : IsNumbered book.journal

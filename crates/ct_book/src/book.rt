@@ -1,7 +1,7 @@
 ghost use Rattle.std.specs.Prelude.{◌≡◌, ◌+◌, ◌-◌, ◌<◌, ◌≤◌, ◌^◌, ◌++◌, ◌∷◌, [], length, slice_get, slice_set, true, false, is_some, IfOk, IfSome, if◌then◌else◌};
 ghost use Rattle.std.specs.Option.{option_copied};
 ghost use Rattle.ct_book.specs.Journals.{numbered, has_room, with_work, with_event, with_reply, without_body, reply_of, is_command, line_of};
-ghost use Rattle.ct_book.specs.Kept.{empty_book, events_for, IsBodyOf, IsKept, IsCommandNo, CanBePushed, HasNexus, IsSound, logged_in};
+ghost use Rattle.ct_book.specs.Kept.{empty_book, events_for, IsBodyOf, IsKept, IsCommandNo, CanBePushed, HasNexus, IsFresh, IsSound, logged_in};
 
 use crate::event::{Event, Why};
 use crate::work::{Cmd, Command, Work};
@@ -81,6 +81,7 @@ impl Book {
         requires { has_room self.old work pieces ≡ true → 0 < self.old.spare }
         ensures answer { result ≡ (if has_room self.old work pieces then Ok (length self.old.works + 1) else Err work) }
         ensures after { self.new ≡ (if has_room self.old work pieces then with_work self.old node work pieces else self.old) }
+        ensures fresh { IfOk result (λ no. IsFresh self.new no work) }
     {
         if !self.room_for(&work, pieces) {
             return Err(work);
@@ -94,6 +95,7 @@ impl Book {
         requires spare { 0 < self.old.spare }
         ensures answer { result ≡ length self.old.works + 1 }
         ensures after { self.new ≡ with_work self.old node work pieces }
+        ensures fresh { IsFresh self.new result work }
     {
         let no = CmdNo::new(self.works.len() as u32 + 1);
         let (work, body) = split(work);

@@ -9,3 +9,6 @@ mod work;
 pub use book::Book;
 pub use event::{Entry, Event, Kind2, Logged, Why};
 pub use work::{Cmd, Command, Work};
+
+#[cfg(test)]
+mod tests;

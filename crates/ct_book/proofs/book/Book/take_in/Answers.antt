@@ -1,10 +1,10 @@
-use Rattle.std.proofs.Common.{refl, ◌≡◌, ◌++◌, ◌<◌, ◌-◌, ◌∷◌, [], length, map, is_some, arith, ap, sym, ◌∙◌, true}
+use Rattle.std.proofs.Common.{refl, ◌≡◌, ◌++◌, ◌+◌, ◌<◌, ◌-◌, ◌∷◌, [], length, map, is_some, arith, ap, sym, ◌∙◌, true}
 use Rattle.std.proofs.lemmas.Grind.{common_steps}
 use Rattle.std.proofs.lemmas.List.{map-append, length-append}
 use Rattle.ct_book.specs.Journals.{has_room}
 use Rattle.ct_book.specs.Kept.{CanBePushed, IsKept}
 use Rattle.ct_book.specs.contracts.book.Book.{the_view}
-use Rattle.ct_book.proofs.Pages.{HasJournal, journal-add, has-room, with-work, kept-push}
+use Rattle.ct_book.proofs.Pages.{HasJournal, journal-add, has-room, with-work, kept-push, fresh-last}
 use Rattle.ct_book.proofs.book.Book.take_in.Goals as goal
 
 pub invariant_of-self : goal.invariant_of-self
@@ -36,3 +36,11 @@ returns-clause-after c =
     let inv = c.self.invariant in
     let has = journal-add i.works.items i.replies.items i.events.items c.args.work c.args.node (record { in_order = inv.in_order; come = inv.come; settled = inv.settled }) in
     rw (← c.self.view_is, with-work (the_view i) c.args.node c.args.work c.args.pieces, c.write.ensures, c.push.ensures, c.push-2.ensures, c.push-3.ensures, c.commands_left-self-inside.ensures, c.functions_left-self-inside.ensures, c.line_of-line.ensures, c.new-no.ensures, c.len.ensures, c.split-work.ensures.work, has.0, map-append, c.split-work.ensures.body)
+
+pub returns-clause-fresh : goal.returns-clause-fresh
+returns-clause-fresh c =
+    let i = c.self.inside in
+    let inv = c.self.invariant in
+    let number : c.new-no.result ≡ length i.works.items + 1 = rw (c.new-no.ensures, c.len.ensures) refl in
+    let last = fresh-last i.works.items i.bodies.items i.replies.items c.args.work c.split-work.result.1 c.new-no.result inv.body_each inv.reply_each number c.split-work.ensures.body in
+    rw (c.push.ensures, c.push-2.ensures, c.push-3.ensures, c.split-work.ensures.work) (record { work = last.0; reply = last.1; body = last.2 })
