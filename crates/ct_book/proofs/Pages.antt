@@ -1,7 +1,7 @@
 -- The journal of a book as its works, replies and events change.
-use Rattle.std.proofs.Common.{◌≡◌, ◌⊎◌, inl, inr, ℕ, zero, suc, ◌+◌, ◌-◌, ◌<◌, ◌≤◌, Bool, true, false, List, [], ◌∷◌, ◌++◌, length, map, slice_get, slice_set, Option, Some, None, is_some, IsSome, IfSome, refl, sym, ◌∙◌, ap, subst, arith, sub-one}
+use Rattle.std.proofs.Common.{◌≡◌, inl, inr, ℕ, zero, suc, ◌+◌, ◌-◌, ◌<◌, ◌≤◌, true, false, List, [], ◌∷◌, ◌++◌, length, map, slice_get, slice_set, Option, Some, None, is_some, IsSome, IfSome, refl, sym, ◌∙◌, ap, subst, arith, sub-one}
 use Rattle.std.specs.Prelude.{option_and_then, option_map, IsSomeAnd, if◌then◌else◌}
-use Rattle.std.specs.List.{filter_map, cons_option}
+use Rattle.std.specs.List.{cons_option}
 use Rattle.std.proofs.lemmas.Option.{same_Some, none-some, slice_get_within, slice_get_cases, slice_get-map}
 use Rattle.std.proofs.lemmas.List.{map-append, length-append, length-map, append-nil}
 use Rattle.std.proofs.lemmas.List.Elements.{filter_map-append}
@@ -15,8 +15,8 @@ use Rattle.ct_book.specs.declared.event.Event.TheVariants.{Came, Enter, Turned, 
 use Rattle.ct_book.specs.declared.event.Why.TheVariants.{By, Medium}
 use Rattle.ct_book.specs.declared.event.Logged.{Logged}
 use Rattle.ct_book.specs.Journals.{KeptWork, BookState, told_in, is_command, line_of, has_room, with_work, arrived, numbered, works_in, reply_in, reply_at, IsInOrder, IsNumberedFrom}
-use Rattle.ct_book.specs.Kept.{CanBePushed, IsCommandNo, IsFunctionNo, IsReason, work_at, logged_with, logged_all, IsSettled, IsSettledFrom, IsKept, IsBodyOf, AreKept, HasNexus}
-use Rattle.ct_book.proofs.Places.{get-push, get-write, numbered-left, numbered-within, numbered-stays, numbered-last, numbered-apart, numbered-place}
+use Rattle.ct_book.specs.Kept.{CanBePushed, work_at, logged_with, logged_all, IsSettled, IsSettledFrom, IsKept, IsBodyOf, AreKept, HasNexus}
+use Rattle.ct_book.proofs.Places.{get-push, get-write, numbered-within, numbered-stays, numbered-last, numbered-apart}
 
 -- how many works a journal has, by its first event and the others
 pub works-cons : (logged : Logged) (journal : List Logged) → length (works_in (logged ∷ journal)) ≡ length (works_in journal) + length (works_in (logged ∷ []))
@@ -313,7 +313,8 @@ untaken bodies (suc before) h =
 pub fresh-last : (works : List KeptWork) (bodies : List (Option (Kept ℕ))) (replies : List (Option Reply)) (came : KeptWork) (body : Option (Kept ℕ)) (number : ℕ) → length bodies ≡ length works → length replies ≡ length works → number ≡ length works + 1 → is_some body ≡ is_command came
     → (numbered number (works ++ came ∷ []) ≡ Some came) × (reply_in (replies ++ None ∷ []) number ≡ None) × (numbered number (map is_some (bodies ++ body ∷ [])) ≡ Some (is_command came))
 fresh-last works bodies replies came body number n m e same =
-    let size = length-map bodies (λ (b : Option (Kept ℕ)). is_some b) in
-    (numbered-last number works came (omega arith),
-     ap (option_and_then (λ reply. reply)) (numbered-last number replies None (omega arith)),
-     rw map-append (numbered-last number (map is_some bodies) (is_some body) (omega arith) ∙ ap Some same))
+    let size = length-map bodies (λ (b : Option (Kept ℕ)). is_some b) in (
+      numbered-last number works came (omega arith),
+      ap (option_and_then (λ reply. reply)) (numbered-last number replies None (omega arith)),
+      rw map-append (numbered-last number (map is_some bodies) (is_some body) (omega arith) ∙ ap Some same),
+    )

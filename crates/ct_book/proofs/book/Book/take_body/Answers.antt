@@ -1,7 +1,6 @@
-use Rattle.std.proofs.Common.{◌≡◌, ◌-◌, ◌∙◌, ap, arith, slice_get, false, length, map, is_some, Option, Some, true, ℕ}
+use Rattle.std.proofs.Common.{◌≡◌, ◌-◌, ◌∙◌, ap, arith, slice_get, false, map, is_some, Some, true}
 use Rattle.std.proofs.lemmas.Grind.{common_steps}
-use Rattle.std.proofs.lemmas.List.{length-map, map-set}
-use Rattle.ct_word.specs.Kept.{Kept}
+use Rattle.std.proofs.lemmas.List.{map-set}
 use Rattle.ct_book.specs.Journals.{numbered}
 use Rattle.ct_book.proofs.Pages.{untaken, body-of, kept-take}
 use Rattle.ct_book.proofs.book.Book.take_body.Goals as goal
