@@ -290,12 +290,17 @@ nexus-at works bodies zero n all = tt
 nexus-at works bodies (suc before) n all = nexus-place works bodies before n all
 
 -- the body under a number whose list wasn't taken
-pub body-of : (works : List KeptWork) (bodies : List (Option (Kept ℕ))) (number : ℕ) (body : Kept ℕ) → AreKept works bodies → slice_get bodies (number - 1) ≡ Some (Some body) → 0 < number → IfSome (numbered number works) (λ came. IsBodyOf came body)
-body-of works bodies zero body all h one = absurd (omega arith)
-body-of works bodies (suc before) body all h one = by_cases (slice_get works before) refl where
-  by_cases : (o : Option KeptWork) → slice_get works before ≡ o → IfSome o (λ came. IsBodyOf came body)
-  by_cases None e = tt
-  by_cases (Some came) e = all before came (Some body) e (rw sub-one at h)
+pub body-of : (works : List KeptWork) (bodies : List (Option (Kept ℕ))) (number : ℕ) (body : Kept ℕ) → length bodies ≡ length works → AreKept works bodies → slice_get bodies (number - 1) ≡ Some (Some body) → 0 < number → IsSomeAnd (numbered number works) (λ came. IsBodyOf came body)
+body-of works bodies zero body n all h one = absurd (omega arith)
+body-of works bodies (suc before) body n all h one = by_cases (slice_get works before) refl where
+  at : slice_get bodies before ≡ Some (Some body)
+  at = rw sub-one at h
+
+  by_cases : (o : Option KeptWork) → slice_get works before ≡ o → IsSomeAnd o (λ came. IsBodyOf came body)
+  by_cases None e =
+      let within : before < length bodies = slice_get_within bodies before (Some body) at in
+      elim (slice_get_cases works before).1 [ inl found ↦ absurd (none-some found.0 (sym e ∙ found.2)) | inr past ↦ absurd (omega (arith, past.0)) ]
+  by_cases (Some came) e = all before came (Some body) e at
 
 pub untaken : (bodies : List (Option (Kept ℕ))) (number : ℕ) → numbered number (map is_some bodies) ≡ Some true → (0 < number) × (number - 1 < length bodies) × ((body : Option (Kept ℕ)) → slice_get bodies (number - 1) ≡ Some body → is_some body ≡ true)
 untaken bodies zero h = absurd cc

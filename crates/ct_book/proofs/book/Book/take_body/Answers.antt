@@ -38,7 +38,7 @@ returns-clause-ready c =
     let item : slice_get i.bodies.items (c.args.no - 1) ≡ Some c.replace.result = rw c.number.ensures at c.replace.ensures.item in
     let body : slice_get i.bodies.items (c.args.no - 1) ≡ Some (Some c.in-Some.body) = item ∙ ap Some c.in-Some.is in
     let given = (untaken i.bodies.items c.args.no stands).0 in
-    rw (← c.self.view_is) (body-of i.works.items i.bodies.items c.args.no c.in-Some.body c.self.invariant.kept body given)
+    rw (← c.self.view_is) (body-of i.works.items i.bodies.items c.args.no c.in-Some.body c.self.invariant.body_each c.self.invariant.kept body given)
 
 pub returns-clause-after : goal.returns-clause-after
 returns-clause-after c = rw (← c.self.view_is, c.replace.ensures.rest, c.number.ensures, map-set)
