@@ -2,13 +2,9 @@
 -- project's own).
 use Rattle.std.specs.Prelude.{ℕ, List, [], ◌∷◌, ◌++◌, Bool, true, false, not, ◌&&◌, ◌==◌, if◌then◌else◌, Option, None, Some, is_none, option_map}
 use Rattle.std.specs.List.{find}
-use Rattle.ct_matrix.specs.declared.held.Held.{Held}
+use Rattle.std.specs.Option.{option_map_or}
+use Rattle.ct_matrix.specs.declared.held.HeldCommand.{HeldCommand}
 use Rattle.ct_matrix.specs.Conflicts.{has_to_wait, is_head}
-
--- a command that is held: its number, and what decides about waiting
-pub record HeldCommand : Type 0 where
-  pub no : ℕ
-  pub held : Held
 
 -- what contracts see of a task set: its commands in queue order, how many it can hold, and whether
 -- reordering is unrestricted
@@ -29,6 +25,10 @@ placed new commands = if is_head new.held.attr then before_waiting new commands 
 -- the command with a number
 abbrev pub command_of : ℕ → List HeldCommand → Option HeldCommand
 command_of wanted commands = find (λ command. command.no == wanted) commands
+
+-- a command is held, and waits
+abbrev pub is_waiting : ℕ → TaskSet → Bool
+is_waiting wanted set = option_map_or (λ command. not command.held.begun) (command_of wanted set.commands) false
 
 -- the commands but the one with a number
 abbrev pub without : ℕ → List HeldCommand → List HeldCommand
