@@ -23,3 +23,4 @@ pub mod Functions
 pub mod Runs
 pub mod Walk
 pub mod Turns
+pub mod Comings
