@@ -82,19 +82,19 @@ use Rattle.ct_law.proofs.Turns.{found_of, step_so}
 
 -- Arrivals
 
-abbrev sent_if : Node → ℕ → KeptWork → List Message → List Message
+abbrev pub sent_if : Node → ℕ → KeptWork → List Message → List Message
 sent_if A n w ms = ms
 sent_if B n w ms = ms ++ message (kind_of w) n ∷ []
 
 -- the state that a work leaves that came
-after_arrived : (n : ℕ) (node : Node) (w : KeptWork) (s : State) → (room : Room) × (after s (arrived n node w) ≡ came_with s (record { node = node; work = w }) room (sent_if node n w s.to_a))
+pub after_arrived : (n : ℕ) (node : Node) (w : KeptWork) (s : State) → (room : Room) × (after s (arrived n node w) ≡ came_with s (record { node = node; work = w }) room (sent_if node n w s.to_a))
 unfolding after
 after_arrived n A (work.Cmd c) s = (_, refl)
 after_arrived n A (work.Ask ask) s = (_, refl)
 after_arrived n B (work.Cmd c) s = (_, refl)
 after_arrived n B (work.Ask ask) s = (_, refl)
 
-comes_on_its_way : (w : KeptWork) → is_arrival (kind_of w) ≡ true
+pub comes_on_its_way : (w : KeptWork) → is_arrival (kind_of w) ≡ true
 comes_on_its_way (work.Cmd c) = refl
 comes_on_its_way (work.Ask ask) = refl
 
@@ -240,7 +240,7 @@ awaited_so P o s journal n over h = record {
 -- To A
 
 -- a message that is no end leaves only the list
-after_a : (k : Kind2) (n : ℕ) (m : Message) (ms : List Message) (s : State) → is_end k ≡ false → s.to_a ≡ m ∷ ms → after s (told (event.Deliver A k n)) ≡ record s { to_a = ms }
+pub after_a : (k : Kind2) (n : ℕ) (m : Message) (ms : List Message) (s : State) → is_end k ≡ false → s.to_a ≡ m ∷ ms → after s (told (event.Deliver A k n)) ≡ record s { to_a = ms }
 unfolding after
 after_a kind.Ask n m ms s no_end e = ap (λ l. record s { to_a = drop 1 l }) e
 after_a kind.Function n m ms s no_end e = ap (λ l. record s { to_a = drop 1 l }) e
@@ -251,7 +251,7 @@ after_a kind.Stop n m ms s no_end e = ap (λ l. record s { to_a = drop 1 l }) e
 after_a kind.Reply n m ms s no_end e = ap (λ l. record s { to_a = drop 1 l }) e
 after_a kind.Response n m ms s no_end e = ap (λ l. record s { to_a = drop 1 l }) e
 
-after_end : (k : Kind2) (n : ℕ) (m : Message) (ms : List Message) (s : State) → is_end k ≡ true → s.to_a ≡ m ∷ ms → after s (told (event.Deliver A k n)) ≡ gone_at_b n (record s { to_a = ms })
+pub after_end : (k : Kind2) (n : ℕ) (m : Message) (ms : List Message) (s : State) → is_end k ≡ true → s.to_a ≡ m ∷ ms → after s (told (event.Deliver A k n)) ≡ gone_at_b n (record s { to_a = ms })
 unfolding after
 after_end kind.Finish n m ms s is e = ap (λ l. gone_at_b n (record s { to_a = drop 1 l })) e
 after_end kind.Stopped n m ms s is e = ap (λ l. gone_at_b n (record s { to_a = drop 1 l })) e

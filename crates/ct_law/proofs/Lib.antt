@@ -24,3 +24,4 @@ pub mod Runs
 pub mod Walk
 pub mod Turns
 pub mod Comings
+pub mod Complete
