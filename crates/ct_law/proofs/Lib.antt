@@ -17,3 +17,4 @@ pub mod Opens
 pub mod Inv
 pub mod Steps
 pub mod Entries
+pub mod Runs
