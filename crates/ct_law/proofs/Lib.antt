@@ -18,3 +18,5 @@ pub mod Inv
 pub mod Steps
 pub mod Entries
 pub mod Runs
+pub mod Sends
+pub mod Live
