@@ -20,3 +20,4 @@ pub mod Entries
 pub mod Runs
 pub mod Sends
 pub mod Live
+pub mod Weights

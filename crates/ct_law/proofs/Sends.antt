@@ -43,7 +43,7 @@ abbrev pub in_messages : ℕ → List Message → ℕ
 in_messages n [] = 0
 in_messages n (m ∷ ms) = one_if (is_arrival m.kind && nat_eq m.no n) + in_messages n ms
 
-in_with : (n : ℕ) (w : Task) (q : List Task) → in_tasks n (with_task w q) ≡ in_tasks n q
+pub in_with : (n : ℕ) (w : Task) (q : List Task) → in_tasks n (with_task w q) ≡ in_tasks n q
 in_with n w [] = refl
 in_with n w (x ∷ xs) = ap (λ m. one_if (nat_eq m n) + in_tasks n (with_task w xs)) (go (nat_eq x.no w.no) refl) ∙ ap (λ r. one_if (nat_eq x.no n) + r) (in_with n w xs)
   where
@@ -71,14 +71,14 @@ in_before n w (x ∷ xs) = go (is_waiting x.stage) (in_before n w xs)
     go true h = refl
     go false h = omega (arith, h)
 
-in_queued : (n : ℕ) (w : Task) (q : List Task) → in_tasks n (queued w q) ≡ one_if (nat_eq w.no n) + in_tasks n q
+pub in_queued : (n : ℕ) (w : Task) (q : List Task) → in_tasks n (queued w q) ≡ one_if (nat_eq w.no n) + in_tasks n q
 in_queued n w q = go (is_head w.command.attr)
   where
     go : (t : Bool) → in_tasks n (cond t (before_waiting w q) (q ++ w ∷ [])) ≡ one_if (nat_eq w.no n) + in_tasks n q
     go true = in_before n w q
     go false = in_push n w q
 
-in_sent : (n : ℕ) (ms : List Message) (m : Message) → in_messages n (ms ++ m ∷ []) ≡ one_if (is_arrival m.kind && nat_eq m.no n) + in_messages n ms
+pub in_sent : (n : ℕ) (ms : List Message) (m : Message) → in_messages n (ms ++ m ∷ []) ≡ one_if (is_arrival m.kind && nat_eq m.no n) + in_messages n ms
 in_sent n [] m = refl
 in_sent n (k ∷ ms) m = let h = in_sent n ms m in omega (arith, h)
 
@@ -203,7 +203,7 @@ fine_over size s k x e a h =
 
 -- Events that no arrival or message brings
 
-fine_begun : (size : ℕ) (s : State) (found : Option Task) → IsFine size s → IsFine size (staged (Here 0 []) found s)
+pub fine_begun : (size : ℕ) (s : State) (found : Option Task) → IsFine size s → IsFine size (staged (Here 0 []) found s)
 fine_begun size s None h = h
 fine_begun size s (Some x) h = fine_turns size s (at_stage (Here 0 []) x) (λ g. absurd (cc), λ o. absurd (cc)) h
 
@@ -300,7 +300,7 @@ fine_event laws size s (event.Cut number puts why told) came f h = fine_cut size
 fine_event laws size s (event.Asked number) came f h = fine_asked size s number (arrival_of number s) h
 fine_event laws size s (event.Closed number outcome) came f h = fine_answered size (closed (function_of number s.functions) s) kind.Response number (fine_closed size s (function_of number s.functions) h)
 
-fine_free : (laws : Laws) (size : ℕ) (s : State) (l : Logged) → is_free l.event ≡ true → IsFine size s → IsFine size (after s l)
+pub fine_free : (laws : Laws) (size : ℕ) (s : State) (l : Logged) → is_free l.event ≡ true → IsFine size s → IsFine size (after s l)
 unfolding after
 fine_free laws size s l f h = fine_event laws size s l.event l.work f h
 
@@ -314,7 +314,7 @@ pub record IsIn (n : ℕ) (arrivals : List Arrival) (tasks : List Task) (to_a : 
 abbrev pub IsFineIn : ℕ → ℕ → State → Type 0
 IsFineIn size n s = IsFine size s × IsIn n s.arrivals s.tasks s.to_a
 
-abbrev with_arrival : State → Node → KeptWork → State
+abbrev pub with_arrival : State → Node → KeptWork → State
 with_arrival s node w = record s { arrivals = s.arrivals ++ record { node = node; work = w } ∷ [] }
 
 fine_arrival : (size : ℕ) (s : State) (node : Node) (w : KeptWork) → IsFine size s → IsFineIn size (next_number s) (with_arrival s node w)
@@ -327,7 +327,7 @@ fine_arrival size s node w h =
       sized = h.sized;
     }, record { none = h.new (next_number s) (omega arith); within = omega (arith, more) })
 
-fine_came_a : (size : ℕ) (s : State) (w : KeptWork) → IsFine size s → IsFineIn size (next_number s) (after_came (next_number s) A (Some w) s)
+pub fine_came_a : (size : ℕ) (s : State) (w : KeptWork) → IsFine size s → IsFineIn size (next_number s) (after_came (next_number s) A (Some w) s)
 fine_came_a size s (work.Cmd command) h = fine_arrival size s A (work.Cmd command) h
 fine_came_a size s (work.Ask ask) h = fine_arrival size s A (work.Ask ask) h
 
@@ -347,7 +347,7 @@ fine_ask size s m i h = record {
     fits n true e a k = let z : in_tasks n s.tasks + in_messages n s.to_a ≡ 0 = subst (λ j. in_tasks j s.tasks + in_messages j s.to_a ≡ 0) (eqb-true m.no n e) i.none in omega (arith, a, z)
     fits n false e a k = omega (arith, a, k)
 
-fine_came_b : (size : ℕ) (s : State) (w : KeptWork) → IsFine size s → IsFine size (after_came (next_number s) B (Some w) s)
+pub fine_came_b : (size : ℕ) (s : State) (w : KeptWork) → IsFine size s → IsFine size (after_came (next_number s) B (Some w) s)
 fine_came_b size s (work.Cmd command) h = let f = fine_arrival size s B (work.Cmd command) h in fine_ask size (with_arrival s B (work.Cmd command)) (message kind.Ask (next_number s)) f.1 f.0
 fine_came_b size s (work.Ask ask) h = let f = fine_arrival size s B (work.Ask ask) h in fine_ask size (with_arrival s B (work.Ask ask)) (message kind.Function (next_number s)) f.1 f.0
 
@@ -377,10 +377,10 @@ unfolding after
 fine_entering laws size s n (Some reply) h = fine_answered size s kind.Reply n h.0
 fine_entering laws size s n None h = fine_enter size s n (arrival_of n s) h
 
-abbrev Keeps : ℕ → State → Turn → Type 0
+abbrev pub Keeps : ℕ → State → Turn → Type 0
 Keeps size s t = IsFine size s → IsFine size t.state
 
-fine_turning : (laws : Laws) (size : ℕ) → Turning (Keeps size)
+pub fine_turning : (laws : Laws) (size : ℕ) → Turning (Keeps size)
 fine_turning laws size = record {
   none = λ s h. h;
   one = λ s l e h. fine_free laws size s l e h;
