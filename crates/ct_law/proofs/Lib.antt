@@ -21,3 +21,4 @@ pub mod Runs
 pub mod Sends
 pub mod Live
 pub mod Weights
+pub mod Fits

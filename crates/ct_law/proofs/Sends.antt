@@ -307,17 +307,17 @@ fine_free laws size s l f h = fine_event laws size s l.event l.work f h
 -- Arrivals and messages
 
 -- the number is neither in the task set nor on its way, and has come
-pub record IsIn (n : ℕ) (arrivals : List Arrival) (tasks : List Task) (to_a : List Message) : Type 0 where
+pub record IsFree (n : ℕ) (arrivals : List Arrival) (tasks : List Task) (to_a : List Message) : Type 0 where
   pub none : in_tasks n tasks + in_messages n to_a ≡ 0
   pub within : n ≤ length arrivals
 
-abbrev pub IsFineIn : ℕ → ℕ → State → Type 0
-IsFineIn size n s = IsFine size s × IsIn n s.arrivals s.tasks s.to_a
+abbrev pub IsFineWith : ℕ → ℕ → State → Type 0
+IsFineWith size n s = IsFine size s × IsFree n s.arrivals s.tasks s.to_a
 
 abbrev pub with_arrival : State → Node → KeptWork → State
 with_arrival s node w = record s { arrivals = s.arrivals ++ record { node = node; work = w } ∷ [] }
 
-fine_arrival : (size : ℕ) (s : State) (node : Node) (w : KeptWork) → IsFine size s → IsFineIn size (next_number s) (with_arrival s node w)
+fine_arrival : (size : ℕ) (s : State) (node : Node) (w : KeptWork) → IsFine size s → IsFineWith size (next_number s) (with_arrival s node w)
 fine_arrival size s node w h =
     let more : length (s.arrivals ++ record { node = node; work = w } ∷ []) ≡ length s.arrivals + 1 = length-append s.arrivals (record { node = node; work = w } ∷ []) in
     (record {
@@ -327,11 +327,11 @@ fine_arrival size s node w h =
       sized = h.sized;
     }, record { none = h.new (next_number s) (omega arith); within = omega (arith, more) })
 
-pub fine_came_a : (size : ℕ) (s : State) (w : KeptWork) → IsFine size s → IsFineIn size (next_number s) (after_came (next_number s) A (Some w) s)
+pub fine_came_a : (size : ℕ) (s : State) (w : KeptWork) → IsFine size s → IsFineWith size (next_number s) (after_came (next_number s) A (Some w) s)
 fine_came_a size s (work.Cmd command) h = fine_arrival size s A (work.Cmd command) h
 fine_came_a size s (work.Ask ask) h = fine_arrival size s A (work.Ask ask) h
 
-fine_ask : (size : ℕ) (s : State) (m : Message) → IsIn m.no s.arrivals s.tasks s.to_a → IsFine size s → IsFine size (record s { to_a = s.to_a ++ m ∷ [] })
+fine_ask : (size : ℕ) (s : State) (m : Message) → IsFree m.no s.arrivals s.tasks s.to_a → IsFine size s → IsFine size (record s { to_a = s.to_a ++ m ∷ [] })
 fine_ask size s m i h = record {
   single = λ n. let k = h.single n in let a = in_sent n s.to_a m in let c = at_most (is_arrival m.kind) (nat_eq m.no n) in fits n (nat_eq m.no n) refl (omega (arith, a, c)) k;
   new = λ n l. let k = h.new n l in let a = in_sent n s.to_a m in let b = one_other m.no n (λ e. omega (arith, i.within, e, l)) in let c = at_most (is_arrival m.kind) (nat_eq m.no n) in omega (arith, k, a, b, c);
@@ -352,7 +352,7 @@ fine_came_b size s (work.Cmd command) h = let f = fine_arrival size s B (work.Cm
 fine_came_b size s (work.Ask ask) h = let f = fine_arrival size s B (work.Ask ask) h in fine_ask size (with_arrival s B (work.Ask ask)) (message kind.Function (next_number s)) f.1 f.0
 
 -- a command enters
-fine_entered : (size : ℕ) (s : State) (n : ℕ) (node : Node) (w : KeptWork) → IsFineIn size n s → IsFine size (entered n node w s)
+fine_entered : (size : ℕ) (s : State) (n : ℕ) (node : Node) (w : KeptWork) → IsFineWith size n s → IsFine size (entered n node w s)
 fine_entered size s n node (work.Ask ask) h = h.0
 fine_entered size s n node (work.Cmd command) h = record {
   single = λ m. let k = h.0.single m in let a = in_queued m new s.tasks in fits m (nat_eq n m) refl a k;
@@ -368,11 +368,11 @@ fine_entered size s n node (work.Cmd command) h = record {
     fits m true e a k = let z : in_tasks m s.tasks + in_messages m s.to_a ≡ 0 = subst (λ j. in_tasks j s.tasks + in_messages j s.to_a ≡ 0) (eqb-true n m e) h.1.none in omega (arith, a, z)
     fits m false e a k = omega (arith, a, k)
 
-fine_enter : (size : ℕ) (s : State) (n : ℕ) (found : Option Arrival) → IsFineIn size n s → IsFine size (after_enter n found s)
+fine_enter : (size : ℕ) (s : State) (n : ℕ) (found : Option Arrival) → IsFineWith size n s → IsFine size (after_enter n found s)
 fine_enter size s n None h = h.0
 fine_enter size s n (Some arrival) h = fine_entered size s n arrival.node arrival.work h
 
-fine_entering : (laws : Laws) (size : ℕ) (s : State) (n : ℕ) (refused : Option Reply) → IsFineIn size n s → IsFine size (entering_with refused n s).state
+pub fine_entering : (laws : Laws) (size : ℕ) (s : State) (n : ℕ) (refused : Option Reply) → IsFineWith size n s → IsFine size (entering_with refused n s).state
 unfolding after
 fine_entering laws size s n (Some reply) h = fine_answered size s kind.Reply n h.0
 fine_entering laws size s n None h = fine_enter size s n (arrival_of n s) h
@@ -387,11 +387,11 @@ fine_turning laws size = record {
   both = λ s t next a b h. b (a h);
 }
 
-fine_in : (laws : Laws) (size : ℕ) (s : State) (n : ℕ) (w : KeptWork) → IsFineIn size n s → IsFine size (taking_in n w s).state
+fine_in : (laws : Laws) (size : ℕ) (s : State) (n : ℕ) (w : KeptWork) → IsFineWith size n s → IsFine size (taking_in n w s).state
 fine_in laws size s n (work.Cmd command) h = fine_entering laws size s n (turned_cause s command) h
 fine_in laws size s n (work.Ask ask) h = asks (Keeps size) (fine_turning laws size) n ask s h.0
 
-fine_coming : (laws : Laws) (size : ℕ) (s : State) (n : ℕ) (found : Option Arrival) → IsFineIn size n s → IsFine size (coming_in n found s).state
+fine_coming : (laws : Laws) (size : ℕ) (s : State) (n : ℕ) (found : Option Arrival) → IsFineWith size n s → IsFine size (coming_in n found s).state
 fine_coming laws size s n None h = h.0
 fine_coming laws size s n (Some arrival) h = fine_in laws size s n arrival.work h
 
@@ -407,7 +407,7 @@ fine_came laws size s A (work.Ask ask) h =
 fine_came laws size s B w h = fine_came_b size s w h
 
 -- a message is taken
-fine_other : (size : ℕ) (arrivals : List Arrival) (tasks : List Task) (m : Message) (ms to_b : List Message) (blocks : List (List ℕ)) → is_end m.kind ≡ false → Fine size arrivals tasks (m ∷ ms) to_b blocks → Fine size arrivals tasks ms to_b blocks
+pub fine_other : (size : ℕ) (arrivals : List Arrival) (tasks : List Task) (m : Message) (ms to_b : List Message) (blocks : List (List ℕ)) → is_end m.kind ≡ false → Fine size arrivals tasks (m ∷ ms) to_b blocks → Fine size arrivals tasks ms to_b blocks
 fine_other size arrivals tasks m ms to_b blocks e h = record {
   single = λ n. let k = h.single n in omega (arith, k);
   new = λ n l. let k = h.new n l in omega (arith, k);
@@ -424,7 +424,7 @@ fine_end size arrivals tasks m ms to_b blocks h = record {
 }
 
 -- an arrival is taken: its number is free
-free_now : (size : ℕ) (arrivals : List Arrival) (tasks : List Task) (m : Message) (ms to_b : List Message) (blocks : List (List ℕ)) → is_arrival m.kind ≡ true → Fine size arrivals tasks (m ∷ ms) to_b blocks →
+pub free_now : (size : ℕ) (arrivals : List Arrival) (tasks : List Task) (m : Message) (ms to_b : List Message) (blocks : List (List ℕ)) → is_arrival m.kind ≡ true → Fine size arrivals tasks (m ∷ ms) to_b blocks →
     (in_tasks m.no tasks + in_messages m.no ms ≡ 0) × (m.no ≤ length arrivals)
 free_now size arrivals tasks m ms to_b blocks a h =
     let one : one_if (is_arrival m.kind && nat_eq m.no m.no) ≡ 1 = ap (λ t. one_if (t && nat_eq m.no m.no)) a ∙ one_itself m.no in
@@ -455,7 +455,7 @@ come_a laws size s kind.Reply m ms e h = fine_other size s.arrivals s.tasks m ms
 come_a laws size s kind.Response m ms e h = fine_other size s.arrivals s.tasks m ms s.to_b s.blocks (ap is_end e) h
 
 -- to B
-fine_pop : (size : ℕ) (arrivals : List Arrival) (tasks : List Task) (to_a : List Message) (m : Message) (ms : List Message) (blocks : List (List ℕ)) → Fine size arrivals tasks to_a (m ∷ ms) blocks →
+pub fine_pop : (size : ℕ) (arrivals : List Arrival) (tasks : List Task) (to_a : List Message) (m : Message) (ms : List Message) (blocks : List (List ℕ)) → Fine size arrivals tasks to_a (m ∷ ms) blocks →
     ((x : Task) → Has tasks x → is_given x.stage ≡ true → is_grant m.kind ≡ true → m.no ≡ x.no → ⊥) → Fine size arrivals tasks to_a ms blocks
 fine_pop size arrivals tasks to_a m ms blocks h none = record {
   single = h.single;
@@ -495,7 +495,7 @@ fine_grant size s m ms (Some t) e h = go t.stage refl
     go (There done got) i = not_given (ap is_given i)
     go Over i = not_given (ap is_given i)
 
-come_b : (size : ℕ) (s : State) (k : Kind2) (m : Message) (ms : List Message) → m.kind ≡ k → Fine size s.arrivals s.tasks s.to_a (m ∷ ms) s.blocks → IsFine size (came_to_b k m.no (with_b s ms))
+pub come_b : (size : ℕ) (s : State) (k : Kind2) (m : Message) (ms : List Message) → m.kind ≡ k → Fine size s.arrivals s.tasks s.to_a (m ∷ ms) s.blocks → IsFine size (came_to_b k m.no (with_b s ms))
 come_b size s kind.Grant m ms e h = fine_grant size s m ms (task_of m.no s.tasks) refl h
 come_b size s kind.Ask m ms e h = fine_pop size s.arrivals s.tasks s.to_a m ms s.blocks h (λ x k g i j. both_ways (is_grant m.kind) (ap is_grant e) i)
 come_b size s kind.Function m ms e h = fine_pop size s.arrivals s.tasks s.to_a m ms s.blocks h (λ x k g i j. both_ways (is_grant m.kind) (ap is_grant e) i)

@@ -220,15 +220,15 @@ left_granted n s number m x h f e =
     let d = one_stop s.stopped x.no in
     omega (arith, a, b, c, d)
 
-pub left_grant : (n : ℕ) (s : State) (x : Task) → IsFine n s → task_of x.no s.tasks ≡ Some x → left n (begun_at_b x.stage x s) ≤ left n s
-left_grant n s x h f = go x.stage refl
+pub left_grant : (n : ℕ) (s : State) (ms : List Message) (number : ℕ) (x : Task) → length s.to_b ≡ suc (length ms) → IsFine n s → task_of number s.tasks ≡ Some x → left n (begun_at_b x.stage x (record s { to_b = ms })) + 1 ≤ left n s
+left_grant n s ms number x b h f = go x.stage refl
   where
-    go : (stage : Stage) → x.stage ≡ stage → left n (begun_at_b stage x s) ≤ left n s
-    go Granted e = let a = turned_total n s x.no x (There 0 []) h f in let b = weight_is n s.stopped x Granted e in omega (arith, a, b)
-    go Waiting e = omega arith
-    go (Here done got) e = omega arith
-    go (There done got) e = omega arith
-    go Over e = omega arith
+    go : (stage : Stage) → x.stage ≡ stage → left n (begun_at_b stage x (record s { to_b = ms })) + 1 ≤ left n s
+    go Granted e = let a = turned_total n s number x (There 0 []) h f in let c = weight_is n s.stopped x Granted e in omega (arith, a, b, c)
+    go Waiting e = omega (arith, b)
+    go (Here done got) e = omega (arith, b)
+    go (There done got) e = omega (arith, b)
+    go Over e = omega (arith, b)
 
 -- a command moves
 pub left_moved : (n : ℕ) (s : State) (number : ℕ) (x : Task) (count done : ℕ) (got : List ℕ) → IsFine n s → task_of number s.tasks ≡ Some x → (x.stage ≡ Here done got) ⊎ (x.stage ≡ There done got) → 1 ≤ count → count ≤ length (plan_in n x.command) - done →
