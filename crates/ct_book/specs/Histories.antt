@@ -32,6 +32,11 @@ abbrev pub others_of : Nexus → List KeptWork → List ℕ → List Bool
 others_of asker works [] = no_nexuses
 others_of asker works (number ∷ numbers) = with_other asker (numbered number works) (others_of asker works numbers)
 
+-- a set with the nexus of the command that an event says was cut by a work, where it is another than the asker's
+abbrev pub with_cut : ℕ → Nexus → List KeptWork → Event → List Bool → List Bool
+with_cut by asker works (event.Cut number puts (By cutter) told) set = if cutter == by then with_other asker (numbered number works) set else set
+with_cut by asker works _ set = set
+
 -- the set of a function's entry: for CLEAR TASK SET the other nexuses of which it cut a command
 abbrev pub set_of : Function → Nexus → List KeptWork → List ℕ → List Bool
 set_of ClearTaskSet asker works cut = others_of asker works cut

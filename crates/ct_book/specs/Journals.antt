@@ -70,24 +70,30 @@ with_work book node came pieces = record (used_by came book) {
 }
 
 -- the reply that stands under a number
+abbrev pub reply_in : List (Option Reply) → ℕ → Option Reply
+reply_in replies number = option_and_then (λ reply. reply) (numbered number replies)
+
 abbrev pub reply_of : BookState → ℕ → Option Reply
-reply_of book number = option_and_then (λ reply. reply) (numbered number book.replies)
+reply_of book number = reply_in book.replies number
 
 -- the reply that counts with an event: that of a command that ended, was refused at its arrival, or was cut
 -- by a fault of the medium
+abbrev pub reply_at : List (Option Reply) → Event → Option Reply
+reply_at replies (Ended number) = reply_in replies number
+reply_at replies (Turned number) = reply_in replies number
+reply_at replies (Cut number puts Medium told) = reply_in replies number
+reply_at replies (Cut number puts (By by) told) = None
+reply_at replies (Came number node line) = None
+reply_at replies (Enter number) = None
+reply_at replies (Begun number) = None
+reply_at replies (Granted number) = None
+reply_at replies (Moved number count) = None
+reply_at replies (Asked number) = None
+reply_at replies (Closed number outcome) = None
+reply_at replies (Deliver node kind number) = None
+
 abbrev pub reply_with : BookState → Event → Option Reply
-reply_with book (Ended number) = reply_of book number
-reply_with book (Turned number) = reply_of book number
-reply_with book (Cut number puts Medium told) = reply_of book number
-reply_with book (Cut number puts (By by) told) = None
-reply_with book (Came number node line) = None
-reply_with book (Enter number) = None
-reply_with book (Begun number) = None
-reply_with book (Granted number) = None
-reply_with book (Moved number count) = None
-reply_with book (Asked number) = None
-reply_with book (Closed number outcome) = None
-reply_with book (Deliver node kind number) = None
+reply_with book event = reply_at book.replies event
 
 -- an event that is no arrival, as it counts in the journal
 abbrev pub told_in : BookState → Event → Logged

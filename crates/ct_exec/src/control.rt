@@ -1,5 +1,5 @@
 ghost use Rattle.std.specs.Prelude.{◌≡◌, IfOk};
-ghost use Rattle.ct_exec.specs.Controls.{opening_control};
+ghost use Rattle.ct_exec.specs.Controls.{opening_control, is_unrestricted, has_descriptors};
 
 use ct_word::{LunNo, NoMemory};
 use std::alloc::Global;
@@ -25,5 +25,21 @@ impl Control {
         ensures { IfOk result (λ control. control ≡ opening_control lun) }
     {
         Ok(Control { lun })
+    }
+
+    /// Whether reordering is unrestricted.
+    #[tactic(auto, unfolding(crate::specs::Controls::is_unrestricted))]
+    pub fn is_unrestricted(&self) -> bool
+        ensures { result ≡ is_unrestricted self.now }
+    {
+        false
+    }
+
+    /// Whether sense data have the descriptor form.
+    #[tactic(auto, unfolding(crate::specs::Controls::has_descriptors))]
+    pub(crate) fn has_descriptors(&self) -> bool
+        ensures { result ≡ has_descriptors self.now }
+    {
+        false
     }
 }

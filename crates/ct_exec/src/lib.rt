@@ -1,6 +1,16 @@
 //! The checks of a command that begins, and what it does where it moves no block.
 #![tactic(auto)]
 
+mod at_once;
+mod checks;
 mod control;
+mod ended;
+mod refusal;
+#[cfg(test)]
+mod tests;
 
+pub use at_once::instant;
+pub use checks::{check, need, plan};
 pub use control::Control;
+pub use ended::Instant;
+pub use refusal::{Refusal, check_condition, failed, moved_reply};

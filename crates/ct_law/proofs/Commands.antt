@@ -23,8 +23,8 @@ use Rattle.ct_plan.specs.Plans.{operations_of, plan_of}
 use Rattle.ct_plan.specs.Cells.{Cells, Progress, after, after_all, performed}
 use Rattle.ct_plan.specs.Effects.{written_disk, data_in}
 use Rattle.ct_plan.proofs.Cuts.{whole_plan}
-use Rattle.ct_matrix.specs.declared.action.Action.{Action}
-use Rattle.ct_matrix.specs.declared.action.Action.TheVariants as action
+use Rattle.ct_matrix.specs.declared.cells.Action.{Action}
+use Rattle.ct_matrix.specs.declared.cells.Action.TheVariants as action
 use Rattle.ct_matrix.specs.declared.held.Held.{Held}
 use Rattle.ct_matrix.specs.Extents.{Print, numbers_from, blocks_in, share_a_block, overlap, extents_of, whole_print, no_print, footprint_of}
 use Rattle.ct_matrix.specs.Matrix.{action_of}
@@ -155,7 +155,7 @@ apart_law n a b x y e = plans_apart n (length a.out) (length b.out) (cdb_of a.cd
 -- Whole
 
 -- gets and puts find no difference
-no_difference : (out : List ℕ) (ops : List BlockOp) (cells : Cells) → (performed out ops cells).difference ≡ None
+pub no_difference : (out : List ℕ) (ops : List BlockOp) (cells : Cells) → (performed out ops cells).difference ≡ None
 no_difference out [] cells = refl
 no_difference out (Get l ∷ ops) cells = no_difference out ops (after out (Get l) cells)
 no_difference out (Put l place ∷ ops) cells = no_difference out ops (after out (Put l place) cells)

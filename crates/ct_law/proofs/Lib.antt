@@ -17,7 +17,13 @@ pub mod Opens
 pub mod Inv
 pub mod Steps
 pub mod Entries
+pub mod Moves
+pub mod Overs
+pub mod Functions
 pub mod Runs
+pub mod Walk
+pub mod Turns
+pub mod Comings
 pub mod Sends
 pub mod Live
 pub mod Weights

@@ -6,7 +6,8 @@ use Rattle.ct_word.specs.declared.names.Node.{Node}
 use Rattle.ct_word.specs.declared.names.Node.TheVariants.{A, B}
 use Rattle.ct_matrix.specs.declared.held.Held.{Held}
 use Rattle.ct_matrix.specs.Conflicts.{conflicts, skips, has_to_wait, is_head, is_ordered}
-use Rattle.ct_matrix.specs.Queues.{HeldCommand, TaskSet, first_to_wait_for, blocker_of, is_ready, number_of, next_ready_of}
+use Rattle.ct_matrix.specs.declared.held.HeldCommand.{HeldCommand}
+use Rattle.ct_matrix.specs.Queues.{TaskSet, first_to_wait_for, blocker_of, is_ready, number_of, next_ready_of}
 use Rattle.ct_book.specs.declared.event.Logged.{Logged}
 use Rattle.ct_exec.specs.Controls.{is_unrestricted}
 use Rattle.ct_machine.specs.declared.act.Act.TheVariants as act
@@ -83,9 +84,9 @@ first_free n unrestricted x (y ∷ ys) all = go (nat_eq y.no x.no) (has_to_wait 
     go false true e r = absurd (cc)
     go false false e r = r
 
-first_ready : (s : State) (x : Task) (q : List Task) → s.tasks ≡ x ∷ q → ((y : Task) → Has (x ∷ q) y → is_waiting y.stage ≡ true) → blocker_of (record { commands = map (held_of (length s.blocks)) (x ∷ q); depth = s.depth; unrestricted = is_unrestricted s.control }) (held_of (length s.blocks) x) ≡ None
+first_ready : (s : State) (x : Task) (q : List Task) → ((y : Task) → Has (x ∷ q) y → is_waiting y.stage ≡ true) → blocker_of (record { commands = map (held_of (length s.blocks)) (x ∷ q); depth = s.depth; unrestricted = is_unrestricted s.control }) (held_of (length s.blocks) x) ≡ None
 unfolding blocker_of
-first_ready s x q e all = go (nat_eq x.no x.no) (eqb x.no) (first_free (length s.blocks) (is_unrestricted s.control) (held_of (length s.blocks) x) q (λ y h. all y (inr h)))
+first_ready s x q all = go (nat_eq x.no x.no) (eqb x.no) (first_free (length s.blocks) (is_unrestricted s.control) (held_of (length s.blocks) x) q (λ y h. all y (inr h)))
   where
     rest : Bool → Option ℕ
     rest a = first_to_wait_for (is_unrestricted s.control) a (held_of (length s.blocks) x) (map (held_of (length s.blocks)) q)
@@ -113,7 +114,7 @@ ready_some s x q e all =
     found false e = absurd (cc)
 
     passes : is_ready (set (x ∷ q)) (held_of (length s.blocks) x) ≡ true
-    passes = ap (λ t. not t && is_none (blocker_of (set (x ∷ q)) (held_of (length s.blocks) x))) (not_waiting x.stage (all x (inl refl))) ∙ ap is_none (first_ready s x q e all)
+    passes = ap (λ t. not t && is_none (blocker_of (set (x ∷ q)) (held_of (length s.blocks) x))) (not_waiting x.stage (all x (inl refl))) ∙ ap is_none (first_ready s x q all)
 
 -- Where none moves, none does
 

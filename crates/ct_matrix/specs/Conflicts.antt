@@ -3,8 +3,8 @@
 use Rattle.std.specs.Prelude.{Bool, true, false, not, ◌&&◌, ◌||◌, if◌then◌else◌}
 use Rattle.ct_cdb.specs.declared.op.Attr2.{Attr2}
 use Rattle.ct_cdb.specs.declared.op.Attr2.TheVariants.{Ordered, Head}
-use Rattle.ct_matrix.specs.declared.action.Action.{Action}
-use Rattle.ct_matrix.specs.declared.action.Action.TheVariants as action
+use Rattle.ct_matrix.specs.declared.cells.Action.{Action}
+use Rattle.ct_matrix.specs.declared.cells.Action.TheVariants as action
 use Rattle.ct_matrix.specs.declared.held.Held.{Held}
 use Rattle.ct_matrix.specs.declared.held.Demand.{Demand}
 use Rattle.ct_matrix.specs.declared.held.Demand.TheVariants.{Free, Wait}

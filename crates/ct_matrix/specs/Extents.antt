@@ -1,10 +1,10 @@
 -- Which blocks a command reads and writes, as sets of block numbers.
-use Rattle.std.specs.Prelude.{ℕ, zero, suc, ◌+◌, List, [], ◌∷◌, ◌++◌, Bool, ◌||◌, ◌==◌, if◌then◌else◌}
-use Rattle.std.specs.List.{list_any}
+use Rattle.std.specs.Prelude.{ℕ, zero, suc, ◌+◌, List, [], ◌∷◌, ◌++◌, Bool, ◌||◌, ◌==◌, ◌⊎◌, if◌then◌else◌}
+use Rattle.std.specs.List.{list_any, Contains}
 use Rattle.ct_cdb.specs.declared.op.Op.{Op}
 use Rattle.ct_cdb.specs.declared.op.Op.TheVariants.{Read10, Write10}
 use Rattle.ct_cdb.specs.Performed.{is_performed}
-use Rattle.ct_matrix.specs.declared.footprint.Extent.{Extent}
+use Rattle.ct_matrix.specs.declared.blocks.Extent.{Extent}
 
 -- what a command reads and what it writes, as ranges of blocks
 pub record Print : Type 0 where
@@ -30,6 +30,18 @@ unfoldable pub overlap : Print → Print → Bool
 overlap a b =
     share_a_block (blocks_in a.writes) (blocks_in b.reads ++ blocks_in b.writes)
     || share_a_block (blocks_in a.reads) (blocks_in b.writes)
+
+-- a command writes this block
+abbrev pub Writes : Print → ℕ → Type 0
+Writes print block = Contains (blocks_in print.writes) block
+
+-- a command reads or writes this block
+abbrev pub Touches : Print → ℕ → Type 0
+Touches print block = Contains (blocks_in print.reads) block ⊎ Writes print block
+
+-- one command writes a block, and the other reads or writes it
+abbrev pub TouchesBoth : Print → Print → Type 0
+TouchesBoth a b = (block : ℕ) × ((Writes a block × Touches b block) ⊎ (Touches a block × Writes b block))
 
 -- a range of blocks, none where it is empty
 abbrev pub extents_of : ℕ → ℕ → List Extent

@@ -2,8 +2,8 @@
 use Rattle.std.specs.Prelude.{ℕ, List, [], ◌∷◌, slice_index_or}
 use Rattle.ct_cdb.specs.declared.op.SerIdx.{SerIdx}
 use Rattle.ct_cdb.specs.declared.op.SerIdx.TheVariants.{Tur, Inq, RqS, Cap, Rd, Wr, Un, Sy, MSn, MSl, Res, Sta}
-use Rattle.ct_matrix.specs.declared.action.Action.{Action}
-use Rattle.ct_matrix.specs.declared.action.Action.TheVariants as action
+use Rattle.ct_matrix.specs.declared.cells.Action.{Action}
+use Rattle.ct_matrix.specs.declared.cells.Action.TheVariants as action
 
 -- the letters of the table
 abbrev K : Action

@@ -1,5 +1,6 @@
-use crate::footprint::Footprint;
+use crate::blocks::Footprint;
 use ct_cdb::{Attr2, SerIdx};
+use ct_word::CmdNo;
 
 /// The task attribute of a command (SAM-5, clause 8).
 pub type Attr = Attr2;
@@ -11,6 +12,13 @@ pub struct Held {
     pub print: Footprint,
     pub attr: Attr,
     pub begun: bool,
+}
+
+/// A command of a task set: its number, and what decides whether it waits.
+#[derive(Debug, Drop)]
+pub struct HeldCommand {
+    pub no: CmdNo,
+    pub held: Held,
 }
 
 /// What a live command demands of a waiting one.
