@@ -52,6 +52,7 @@ turned_so P o s journal n reply h u new within cause other closed = record {
       cells = tt;
       sound = cause;
       legal = λ r. cause;
+      by = tt;
     });
     works = h.frame.works ∙ sym (works_in-none journal e refl);
     size = h.frame.size;

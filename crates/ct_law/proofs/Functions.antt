@@ -76,6 +76,7 @@ rejected_so P o s journal n node ask h u new within came = record {
       cells = tt;
       sound = tt;
       legal = λ r. tt;
+      by = tt;
     });
     works = h.frame.works ∙ sym (works_in-none journal e refl);
     size = h.frame.size;
@@ -107,6 +108,7 @@ closes_so P laws o s journal p idle h hp none = record {
       cells = tt;
       sound = tt;
       legal = λ r. tt;
+      by = tt;
     });
     works = h.frame.works ∙ sym (works_in-none journal e refl);
     size = h.frame.size;
@@ -252,7 +254,7 @@ pub asked_so : (P : ℕ → ℕ → Type 0) (o : Opening) (s : State) (journal :
     numbered n s.arrivals ≡ Some (record { node = node; work = work.Ask ask }) → Inv (Due n ask s.tasks (numbers_of s.tasks)) o (taken_up n ask s) (journal ++ told (event.Asked n) ∷ [])
 asked_so P o s journal n node ask idle h u new within came = record {
   frame = record {
-    each = each_more (LawfulAt o) [] journal e h.frame.each (record { once = λ m k. absurd (cc); orderly = tt; prefix = tt; cells = tt; sound = tt; legal = λ r. tt });
+    each = each_more (LawfulAt o) [] journal e h.frame.each (record { once = λ m k. absurd (cc); orderly = tt; prefix = tt; cells = tt; sound = tt; legal = λ r. tt; by = tt });
     works = h.frame.works ∙ sym (works_in-none journal e refl);
     size = h.frame.size;
     books = books;

@@ -25,3 +25,8 @@ pub mod Walk
 pub mod Turns
 pub mod Comings
 pub mod Complete
+pub mod Lawful
+pub mod Sends
+pub mod Live
+pub mod Weights
+pub mod Fits

@@ -171,8 +171,8 @@ begun_so P laws o s journal x t idle h hx st ready none allowed moves = record {
     alone false p = (refl, refl)
 
     lawful : (t : Bool) → IsBehindAll o journal x.no → LawfulAt o journal (told (first_event t x.no))
-    lawful true b = record { once = λ m k. absurd (cc); orderly = b; prefix = tt; cells = tt; sound = tt; legal = λ r. tt }
-    lawful false b = record { once = λ m k. absurd (cc); orderly = b; prefix = tt; cells = tt; sound = tt; legal = λ r. tt }
+    lawful true b = record { once = λ m k. absurd (cc); orderly = b; prefix = tt; cells = tt; sound = tt; legal = λ r. tt; by = tt }
+    lawful false b = record { once = λ m k. absurd (cc); orderly = b; prefix = tt; cells = tt; sound = tt; legal = λ r. tt; by = tt }
 
 -- Moves
 
@@ -189,7 +189,7 @@ pub moved_so : (P : ℕ → ℕ → Type 0) (laws : Laws) (o : Opening) (s : Sta
     }) (journal ++ told (event.Moved x.no (performed x.command.out (take count (drop done (plan_in (length s.blocks) x.command))) (record { blocks = s.blocks; got = got })).made) ∷ [])
 moved_so P laws o s journal x count done got h hx at = record {
   frame = record {
-    each = each_more (LawfulAt o) [] journal e h.frame.each (record { once = λ m k. absurd (cc); orderly = tt; prefix = unended; cells = tt; sound = tt; legal = λ r. tt });
+    each = each_more (LawfulAt o) [] journal e h.frame.each (record { once = λ m k. absurd (cc); orderly = tt; prefix = unended; cells = tt; sound = tt; legal = λ r. tt; by = tt });
     works = h.frame.works ∙ sym (works_in-none journal e refl);
     size = then_size n s.blocks x.command count done got ∙ h.frame.size;
     books = books_turns journal s.arrivals s.tasks s.to_a x stage e h.frame.books hx (record {

@@ -77,6 +77,7 @@ ended_so P laws o s journal x done got h hx at whole = entry_so P o s journal x 
     cells = λ k. ap Some (ap (λ c. reply_moved c None got) h.rules.control ∙ ap (λ g. reply_moved d.control None g) (sym b.2 ∙ sym gained.got) ∙ ap (λ f. reply_moved d.control f (beside o x.no journal).got) (sym gained.difference));
     sound = (λ k. absurd (both_ways _ k begun), λ c w k. subst (λ z. refusal_of d.control o.blocks z ≡ None) (same_command c w) (h.rules.allowed x hx active).0);
     legal = λ r. (x.command, known, ap Some (held r).1);
+    by = tt;
   };
   entry = eq-eqb x.no x.no refl;
   no_work = refl;
@@ -126,6 +127,7 @@ once_ends P laws o s journal x h hx st ready is_once = entry_so P o s journal x 
     cells = λ k. absurd (both_ways _ unbegun k);
     sound = (λ k. as_executed, λ c w k. absurd (both_ways _ unbegun k));
     legal = λ r. as_executed;
+    by = tt;
   };
   entry = eq-eqb x.no x.no refl;
   no_work = refl;
@@ -203,6 +205,7 @@ medium_so P o s journal x done got operation h hx at failed =
       cells = tt;
       sound = cause;
       legal = λ r. cause;
+      by = tt;
     })
     (own_alone P o s journal x e.event h.frame hx (λ m. refl) (λ m i. i))
     (opens_alone P o s journal x e h.frame hx (λ p hp ne. (ne_eqb x.no p.no ne, refl)))
@@ -234,6 +237,7 @@ by_so P o s journal x f node ask told_so h hx alive came hit asked unclosed =
       cells = tt;
       sound = cause;
       legal = λ r. cause;
+      by = (ask, in_journal);
     })
     (record {
       enters = λ m. refl;
