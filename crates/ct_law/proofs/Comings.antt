@@ -1,69 +1,43 @@
 -- Works and messages come: what holds after every act, and of all runs.
-use Rattle.std.proofs.Common.{◌≡◌, ℕ, zero, suc, ◌+◌, ◌≤◌, ◌<◌, ◌⊎◌, inl, inr, Bool, true, false, not, ◌||◌, List, [], ◌∷◌, ◌++◌, Option, Some, None, length, map, refl, sym, ap, ◌∙◌, subst, ⊎_elim, arith, nat_eq, eqb-true, eq-eqb, ne_eqb, cond, take, drop, slice_get, append_assoc, append-nil, length-append}
-use Rattle.std.proofs.Common.{leb-true}
-use Rattle.std.proofs.lemmas.Bool.{cases_eq, cases_Bool, both_ways, or_left, or_right, or_from}
+use Rattle.std.proofs.Common.{◌≡◌, ℕ, inl, inr, Bool, true, false, List, [], ◌∷◌, ◌++◌, Option, Some, None, map, refl, sym, ap, ◌∙◌, subst, ⊎_elim, arith, eq-eqb, cond, drop, length-append}
+use Rattle.std.proofs.lemmas.Bool.{both_ways}
 use Rattle.ct_word.specs.declared.names.Node.{Node}
 use Rattle.ct_word.specs.declared.names.Node.TheVariants.{A, B}
 use Rattle.ct_word.specs.declared.names.Room.{Room}
-use Rattle.ct_sense.specs.declared.reply.Reply.{Reply}
-use Rattle.ct_tmf.specs.declared.function.Ask.{Ask}
-use Rattle.ct_book.specs.declared.work.Command.{Command}
 use Rattle.ct_book.specs.declared.work.Work.TheVariants as work
-use Rattle.ct_book.specs.declared.event.Event.{Event}
 use Rattle.ct_book.specs.declared.event.Event.TheVariants as event
 use Rattle.ct_book.specs.declared.event.Kind2.{Kind2}
 use Rattle.ct_book.specs.declared.event.Kind2.TheVariants as kind
-use Rattle.ct_book.specs.declared.event.Why.{Why}
-use Rattle.ct_book.specs.declared.event.Why.TheVariants.{By, Medium}
+use Rattle.ct_book.specs.declared.event.Why.TheVariants.{By}
 use Rattle.ct_book.specs.declared.event.Logged.{Logged}
-use Rattle.ct_book.specs.Journals.{KeptWork, numbered, works_in, arrived, line_of}
-use Rattle.ct_book.specs.Histories.{cut_at}
-use Rattle.ct_exec.specs.Controls.{ControlState, Disk, is_unrestricted, tells_aborts}
+use Rattle.ct_book.specs.Journals.{KeptWork, numbered, arrived}
 use Rattle.ct_machine.specs.declared.act.Opening.{Opening}
-use Rattle.ct_machine.specs.States.{Task, Stage, Waiting, Here, Granted, There, Over, Open, Message, Arrival, State, arrival_of, is_waiting, done_at, without_task, with_task, at_stage, queued, is_b}
-use Rattle.ct_machine.specs.Events.{message, to_b_if, came_at_b, answered, new_task, leaves, over_at_b, works_of}
-use Rattle.ct_machine.specs.Serial.{disk_after, serial_disk}
-use Rattle.ct_machine.specs.Laws.{Each, has, is_entry, is_begin, is_enter, is_asked, made_at, comes_first, IsCommandOf, IsRestricted, Beside, beside}
-use Rattle.ct_law.proofs.Tasks.{Has, has_without, has_with, with_itself, has_queued}
-use Rattle.ct_law.proofs.Held.{Rules, Holds, is_active, rules_removes, removes, rules_in, enters_held}
-use Rattle.ct_law.proofs.Journal.{each_more, has_same, has_not, has_now, has_stays, has_more, made_more, quiet, Quiet, Untouched, untouched_more, IsOf}
-use Rattle.ct_law.proofs.Growing.{works_in-more, works_in-none, numbered_last, numbered_within, serial-more, beside-more}
-use Rattle.ct_law.proofs.Messages.{is_arrival, is_end, is_stop, Sent, IsStop, sent_push, sent_other, stop_other}
-use Rattle.ct_law.proofs.Books.{Books, Turns, IsAsk, IsFresh, is_over, arrival_for, books_came, books_ask, books_tell, books_in, books_turns, books_removes, books_function}
-use Rattle.ct_law.proofs.Orders.{Orders, orders_event, orders_turns, orders_removes, orders_in}
-use Rattle.ct_law.proofs.Opens.{Opens, IsAsked, HasOpen, WasActive, opens_came, opens_event, opens_queue, opens_a, opens_b}
-use Rattle.ct_law.proofs.Inv.{LawfulAt, Frame, Cells, Gained, Inv, Stays, got_at, told, replied, restricted_before, known_in, serial-same, beside-same, cells_event, cells_quiet}
-use Rattle.std.specs.Prelude.{nat_le}
-use Rattle.std.specs.List.{list_any}
+use Rattle.ct_machine.specs.States.{Task, Stage, Waiting, Here, Granted, There, Over, Message, Arrival, State, arrival_of, is_waiting, done_at, without_task, with_task, at_stage}
+use Rattle.ct_machine.specs.Events.{message, over_at_b}
+use Rattle.ct_machine.specs.Serial.{serial_disk}
+use Rattle.ct_machine.specs.Laws.{has, is_entry, is_enter, is_asked, beside}
+use Rattle.ct_law.proofs.Tasks.{Has, has_with}
+use Rattle.ct_law.proofs.Held.{is_active}
+use Rattle.ct_law.proofs.Journal.{each_more, has_same, has_now, has_stays, quiet, Untouched, untouched_more}
+use Rattle.ct_law.proofs.Growing.{works_in-none, numbered_last}
+use Rattle.ct_law.proofs.Messages.{is_arrival, is_end, is_stop, Sent, IsStop, sent_other}
+use Rattle.ct_law.proofs.Books.{Books, IsAsk, is_over, books_came, books_ask, books_function}
+use Rattle.ct_law.proofs.Orders.{orders_event, orders_turns}
+use Rattle.ct_law.proofs.Opens.{HasOpen, opens_event, opens_a, opens_b}
+use Rattle.ct_law.proofs.Inv.{LawfulAt, Gained, Inv, got_at, told, serial-same, cells_quiet}
 use Rattle.ct_machine.specs.declared.act.Answer.TheVariants as answer
-use Rattle.ct_word.specs.Nexuses.{no_nexuses}
-use Rattle.ct_word.specs.declared.names.Ha.{Ha}
-use Rattle.ct_plan.specs.declared.operation.BlockOp.{BlockOp}
-use Rattle.ct_plan.specs.Plans.{puts_among}
-use Rattle.ct_plan.specs.Cells.{Progress, performed, Cells as plan_cells}
-use Rattle.ct_exec.specs.Executions.{Execution, execute, refusal_of, plan_in, reply_moved, reply_failed}
-use Rattle.ct_machine.specs.States.{disk_of, task_of, held_of, task_set_of}
-use Rattle.ct_matrix.specs.Queues.{blocker_of}
-use Rattle.ct_machine.specs.Events.{after, after_ended, after_cut, after_moved, cut_at as cut_from, ended_at, executed_at_once, moved_at, moved_from, further, stops_with, staged, after_granted}
-use Rattle.ct_machine.specs.Acts.{Turn, nothing, writes, says, replies, followed, tried, moving_on, failing, failing_if, moved_to, moving_from, moving, clearing_all, ending_at_once, is_granted, beginning_at, beginning, numbers_of, blocked_by, beginning_unless, stepping_at, stepping, is_sent, Done}
+use Rattle.ct_machine.specs.States.{task_of}
+use Rattle.ct_machine.specs.Events.{after, after_cut, cut_at as cut_from}
+use Rattle.ct_machine.specs.Acts.{Turn, nothing, writes, says, Done}
 use Rattle.ct_law.proofs.Tasks.{has_found}
-use Rattle.ct_law.proofs.Laws.{Laws, has_operations, IsOnce}
-use Rattle.ct_law.proofs.Commands.{no_difference}
-use Rattle.ct_law.proofs.Cleared.{stops_none, clears_none}
-use Rattle.ct_law.proofs.Ready.{IsReady, ready_in}
-use Rattle.ct_law.proofs.Held.{IsSingle}
-use Rattle.ct_law.proofs.Blocks.{perform_done}
-use Rattle.ct_law.proofs.Execs.{then', tried_take, then_size, failed_at}
-use Rattle.ct_law.proofs.Ends.{first_stage, IsAt, at_done, at_further, puts_at, moved_is}
-use Rattle.ct_law.proofs.Steps.{answers, tells_b}
-use Rattle.ct_law.proofs.Entries.{over_state, leaves_so, tells_so}
-use Rattle.ct_law.proofs.Moves.{first_event, begun_so, moved_so}
-use Rattle.ct_law.proofs.Overs.{ended_so, once_ends, medium_so}
-use Rattle.ct_law.proofs.Walk.{Now, After, NoneDue, stays_so, then_so, wrote, none_found}
+use Rattle.ct_law.proofs.Laws.{Laws}
+use Rattle.ct_law.proofs.Ends.{puts_at}
+use Rattle.ct_law.proofs.Entries.{over_state, tells_so}
+use Rattle.ct_law.proofs.Walk.{Now, After, NoneDue, stays_so, then_so, wrote}
 use Rattle.ct_machine.specs.declared.act.Act.{Act}
 use Rattle.ct_machine.specs.declared.act.Act.TheVariants as act
 use Rattle.ct_machine.specs.States.{opened}
-use Rattle.ct_machine.specs.Runs.{replay, IsAllowed, IsRun}
+use Rattle.ct_machine.specs.Runs.{replay, IsRun}
 use Rattle.ct_machine.specs.Events.{kind_of, is_over as gone_at_b, awaits_no_more, after_grant as grant_to, begun_at_b, noted}
 use Rattle.ct_law.proofs.Ends.{puts_at}
 use Rattle.ct_law.proofs.Runs.{run_induction}

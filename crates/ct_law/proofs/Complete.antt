@@ -1,8 +1,8 @@
 -- Each work that came is in the task set or open, on its way, or has its entry.
-use Rattle.std.proofs.Common.{◌≡◌, ℕ, zero, suc, ◌+◌, ◌≤◌, ◌<◌, ◌⊎◌, inl, inr, Bool, true, false, not, ◌||◌, List, [], ◌∷◌, ◌++◌, Option, Some, None, length, map, drop, refl, sym, ap, ◌∙◌, subst, ⊎_elim, arith, nat_eq, eqb-true, eq-eqb, ne_eqb, cond, append_assoc, append-nil, length-append}
-use Rattle.std.proofs.lemmas.Bool.{cases_eq, both_ways, eqb-false}
+use Rattle.std.proofs.Common.{◌≡◌, ℕ, zero, suc, ◌⊎◌, inl, inr, Bool, true, false, List, [], ◌∷◌, ◌++◌, Option, Some, None, length, map, drop, refl, sym, ap, ◌∙◌, subst, ⊎_elim, nat_eq, eqb-true, eq-eqb, cond, append_assoc, append-nil}
+use Rattle.std.proofs.lemmas.Bool.{cases_eq, both_ways}
 use Rattle.std.proofs.lemmas.Option.{same_Some}
-use Rattle.std.specs.Prelude.{is_some, nat_le, nat_lt}
+use Rattle.std.specs.Prelude.{nat_le, nat_lt}
 use Rattle.ct_word.specs.declared.names.Node.{Node}
 use Rattle.ct_word.specs.declared.names.Node.TheVariants.{A, B}
 use Rattle.ct_sense.specs.declared.reply.Reply.{Reply}
@@ -17,25 +17,22 @@ use Rattle.ct_book.specs.declared.event.Kind2.TheVariants as kind
 use Rattle.ct_book.specs.declared.event.Why.{Why}
 use Rattle.ct_book.specs.declared.event.Why.TheVariants.{By, Medium}
 use Rattle.ct_book.specs.declared.event.Logged.{Logged}
-use Rattle.ct_book.specs.Journals.{KeptWork, numbered, works_in, arrived}
-use Rattle.ct_exec.specs.Controls.{tells_aborts}
-use Rattle.ct_machine.specs.declared.act.Act.{Act}
+use Rattle.ct_book.specs.Journals.{KeptWork, numbered, arrived}
 use Rattle.ct_machine.specs.declared.act.Opening.{Opening}
-use Rattle.ct_machine.specs.States.{Task, Stage, Waiting, Here, Granted, There, Over, Open, Message, Arrival, State, opened, arrival_of, task_of, function_of, without_task, with_task, at_stage}
-use Rattle.ct_machine.specs.Events.{message, answered, to_b_if, came_at_b, after, staged, moved_at, after_moved, ended_at, after_ended, cut_at, after_cut, noted, closed, without_function, with_function, taken_up, asked_for, after_asked, awaits_no_more, awaited_by, after_enter, entered, after_grant, begun_at_b, kind_of}
-use Rattle.ct_machine.specs.Acts.{Turn, nothing, writes, says, replies, followed, turned_cause, entering_with, entering, most_open, numbers_of, cutting_all, closing, open_numbers, closing_all, taking_up, asking, next_number, arriving_at, taking_in, coming_in, coming_to_a, coming_to_b, coming_to, delivering_first, messages_to, doing}
+use Rattle.ct_machine.specs.States.{Task, Stage, Waiting, Here, Granted, There, Over, Open, Message, Arrival, State, opened, arrival_of, task_of, function_of}
+use Rattle.ct_machine.specs.Events.{message, answered, to_b_if, came_at_b, after, staged, moved_at, after_moved, ended_at, after_ended, cut_at, after_cut, noted, closed, without_function, with_function, asked_for, after_asked, awaits_no_more, awaited_by, after_enter, entered, after_grant, begun_at_b, kind_of}
+use Rattle.ct_machine.specs.Acts.{Turn, nothing, writes, says, followed, turned_cause, entering_with, entering, most_open, numbers_of, cutting_all, closing, open_numbers, taking_up, asking, next_number, arriving_at, taking_in, coming_in, coming_to_a, coming_to_b, delivering_first, messages_to}
 use Rattle.ct_machine.specs.Runs.{replay, IsRun}
-use Rattle.ct_machine.specs.Laws.{has, is_entry, is_enter, IsQuiet}
-use Rattle.ct_law.proofs.Inv.{Inv, told, replied}
+use Rattle.ct_machine.specs.Laws.{has, is_entry, is_enter}
+use Rattle.ct_law.proofs.Inv.{told, replied}
 use Rattle.ct_law.proofs.Journal.{has_stays, has_now}
 use Rattle.ct_law.proofs.Growing.{numbered_older, numbered_last}
-use Rattle.ct_law.proofs.Messages.{is_arrival, Sent, push_sent, push_last}
+use Rattle.ct_law.proofs.Messages.{is_arrival, push_sent, push_last}
 use Rattle.ct_law.proofs.Walk.{found_open}
 use Rattle.ct_law.proofs.Steps.{came_with}
 use Rattle.ct_law.proofs.Comings.{sent_if, after_arrived, comes_on_its_way, after_a, after_end}
 use Rattle.ct_word.specs.declared.names.Room.{Room}
 use Rattle.ct_law.proofs.Messages.{is_end}
-use Rattle.ct_machine.specs.Events.{is_over as gone_at_b}
 use Rattle.ct_law.proofs.Books.{IsAsk}
 use Rattle.ct_law.proofs.Runs.{is_free, Turning, Acting, acts, cuts_all, closes, closes_all, comes_to_b, run_induction}
 
@@ -466,6 +463,7 @@ arrives_given s A (work.Ask ask) journal h =
     let k = came_given A (work.Ask ask) s journal h in
     subst (λ j. Given (asking n ask first.state).state j) (append_assoc journal first.journal (asking n ask first.state).journal) (asks_given n ask A first.state (journal ++ first.journal) k.came k.but)
 arrives_given s B w journal h = sent_on s w journal h
+
 -- the first message to A is delivered
 delivers_a : (s : State) (m : Message) (ms : List Message) → s.to_a ≡ m ∷ ms → Q s (delivering_first A (m ∷ ms) s).turn
 delivers_a s m ms to journal h = subst (λ j. Given (coming_to_a m.kind m t).state j) (append_assoc journal (e ∷ []) (coming_to_a m.kind m t).journal) (go m.kind refl)

@@ -1,44 +1,28 @@
 -- Entries: a work is done, and its command leaves the task set at once, or when A is told.
-use Rattle.std.proofs.Common.{◌≡◌, ℕ, zero, suc, ◌+◌, ◌≤◌, ◌<◌, ◌⊎◌, inl, inr, Bool, true, false, not, ◌||◌, List, [], ◌∷◌, ◌++◌, Option, Some, None, length, map, refl, sym, ap, ◌∙◌, subst, ⊎_elim, arith, nat_eq, eqb-true, eq-eqb, ne_eqb, cond, append_assoc, append-nil, length-append}
-use Rattle.std.proofs.lemmas.Bool.{cases_eq, cases_Bool, both_ways, or_left, or_right, or_from}
-use Rattle.ct_word.specs.declared.names.Node.{Node}
-use Rattle.ct_word.specs.declared.names.Node.TheVariants.{A, B}
-use Rattle.ct_word.specs.declared.names.Room.{Room}
+use Rattle.std.proofs.Common.{◌≡◌, ℕ, ◌≤◌, ◌<◌, ◌⊎◌, inl, Bool, true, false, List, [], ◌∷◌, ◌++◌, Some, None, length, refl, sym, ap, ◌∙◌, subst, ⊎_elim, arith, nat_eq, eqb-true, eq-eqb, ne_eqb, cond}
+use Rattle.std.proofs.lemmas.Bool.{both_ways, or_right}
 use Rattle.ct_sense.specs.declared.reply.Reply.{Reply}
-use Rattle.ct_tmf.specs.declared.function.Ask.{Ask}
-use Rattle.ct_book.specs.declared.work.Command.{Command}
-use Rattle.ct_book.specs.declared.work.Work.TheVariants as work
 use Rattle.ct_book.specs.declared.event.Event.{Event}
 use Rattle.ct_book.specs.declared.event.Event.TheVariants as event
 use Rattle.ct_book.specs.declared.event.Kind2.{Kind2}
-use Rattle.ct_book.specs.declared.event.Kind2.TheVariants as kind
-use Rattle.ct_book.specs.declared.event.Why.{Why}
-use Rattle.ct_book.specs.declared.event.Why.TheVariants.{By, Medium}
 use Rattle.ct_book.specs.declared.event.Logged.{Logged}
-use Rattle.ct_book.specs.Journals.{KeptWork, numbered, works_in, arrived, line_of}
-use Rattle.ct_book.specs.Histories.{cut_at}
-use Rattle.ct_exec.specs.Controls.{ControlState, Disk, is_unrestricted}
+use Rattle.ct_exec.specs.Controls.{ControlState}
 use Rattle.ct_machine.specs.declared.act.Opening.{Opening}
-use Rattle.ct_machine.specs.States.{Task, Stage, Waiting, Here, Granted, There, Over, Open, Message, Arrival, State, arrival_of, is_waiting, done_at, without_task, with_task, at_stage, queued, is_b}
-use Rattle.ct_machine.specs.Events.{message, to_b_if, came_at_b, answered, new_task, leaves, over_at_b, works_of}
+use Rattle.ct_machine.specs.States.{Task, Stage, Waiting, Here, Granted, There, Over, Open, Message, Arrival, State, without_task, with_task, at_stage}
+use Rattle.ct_machine.specs.Events.{message}
 use Rattle.ct_machine.specs.Serial.{disk_after, serial_disk}
-use Rattle.ct_machine.specs.Laws.{Each, has, is_entry, is_begin, is_enter, is_asked, made_at, comes_first, IsCommandOf, IsRestricted, Beside, beside}
-use Rattle.ct_law.proofs.Tasks.{Has, has_without, has_with, with_itself, has_queued}
-use Rattle.ct_law.proofs.Held.{Rules, Holds, is_active, rules_removes, removes, rules_in, enters_held}
-use Rattle.ct_law.proofs.Journal.{each_more, has_same, has_not, has_now, has_stays, has_more, made_more, quiet, Quiet, Untouched, untouched_more, IsOf}
-use Rattle.ct_law.proofs.Growing.{works_in-more, works_in-none, numbered_last, numbered_within, serial-more, beside-more}
-use Rattle.ct_law.proofs.Messages.{is_arrival, is_end, is_stop, Sent, IsStop, sent_push, sent_other, stop_other}
-use Rattle.ct_law.proofs.Books.{Books, Turns, IsAsk, IsFresh, is_over, arrival_for, books_came, books_ask, books_tell, books_in, books_turns, books_removes, books_function}
-use Rattle.ct_law.proofs.Orders.{Orders, orders_event, orders_turns, orders_removes, orders_in}
-use Rattle.ct_law.proofs.Opens.{Opens, IsAsked, HasOpen, WasActive, Begins, opens_came, opens_event, opens_queue, opens_a, opens_b}
-use Rattle.ct_law.proofs.Inv.{LawfulAt, Frame, Cells, Gained, Inv, Stays, got_at, told, replied, is_move, restricted_before, known_in, serial-same, beside-same, cells_event, cells_quiet}
+use Rattle.ct_machine.specs.Laws.{has, is_entry, is_enter, IsRestricted}
+use Rattle.ct_law.proofs.Tasks.{Has, has_without, has_with}
+use Rattle.ct_law.proofs.Held.{Rules, Holds, is_active, rules_removes, removes}
+use Rattle.ct_law.proofs.Journal.{each_more, has_same, Untouched, IsOf}
+use Rattle.ct_law.proofs.Growing.{works_in-none, serial-more}
+use Rattle.ct_law.proofs.Messages.{is_arrival, is_end, sent_push}
+use Rattle.ct_law.proofs.Books.{IsAsk, IsFresh, is_over, books_tell, books_turns, books_removes, books_function}
+use Rattle.ct_law.proofs.Orders.{orders_event, orders_turns, orders_removes}
+use Rattle.ct_law.proofs.Opens.{Opens, HasOpen, WasActive, Begins, opens_event, opens_queue, opens_a}
+use Rattle.ct_law.proofs.Inv.{LawfulAt, Frame, Inv, replied, is_move, restricted_before, serial-same, cells_event, cells_quiet}
 use Rattle.ct_machine.specs.Laws.{IsTurnedFor}
-use Rattle.ct_machine.specs.Acts.{turned_cause}
-use Rattle.ct_machine.specs.Runs.{replay}
-use Rattle.ct_law.proofs.Held.{IsSingle}
-use Rattle.ct_law.proofs.Tasks.{without_has}
-use Rattle.ct_law.proofs.Messages.{push_sent}
-use Rattle.ct_law.proofs.Steps.{rules_same, holds_same, tells_b, answers}
+use Rattle.ct_law.proofs.Steps.{rules_same, holds_same}
 
 -- a command is refused at its arrival
 pub turned_so : (P : ℕ → ℕ → Type 0) (o : Opening) (s : State) (journal : List Logged) (n : ℕ) (reply : Reply) → Inv P o s journal → Untouched n journal → (IsAsk n s.to_a → ⊥) → n ≤ length s.arrivals →

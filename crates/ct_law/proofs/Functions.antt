@@ -1,57 +1,46 @@
 -- Functions are taken up, cut, wait and close.
-use Rattle.std.proofs.Common.{◌≡◌, ℕ, zero, suc, ◌+◌, ◌≤◌, ◌<◌, ◌⊎◌, inl, inr, Bool, true, false, not, ◌||◌, List, [], ◌∷◌, ◌++◌, Option, Some, None, length, map, refl, sym, ap, ◌∙◌, subst, ⊎_elim, arith, nat_eq, eqb-true, eq-eqb, ne_eqb, cond, ◌&&◌, append_assoc, append-nil, length-append}
-use Rattle.std.proofs.lemmas.Bool.{cases_eq, cases_Bool, both_ways, or_left, or_right, or_from, and_parts}
+use Rattle.std.proofs.Common.{◌≡◌, ℕ, ◌≤◌, ◌<◌, ◌⊎◌, inl, inr, Bool, true, false, not, List, [], ◌∷◌, ◌++◌, Some, None, length, map, refl, sym, ap, ◌∙◌, subst, ⊎_elim, arith, eqb-true, eq-eqb, ne_eqb, cond, ◌&&◌, append-nil}
+use Rattle.std.proofs.lemmas.Bool.{cases_Bool, both_ways, and_parts}
 use Rattle.ct_word.specs.declared.names.Node.{Node}
-use Rattle.ct_word.specs.declared.names.Node.TheVariants.{A, B}
-use Rattle.ct_word.specs.declared.names.Room.{Room}
-use Rattle.ct_sense.specs.declared.reply.Reply.{Reply}
 use Rattle.ct_tmf.specs.declared.function.Ask.{Ask}
 use Rattle.ct_book.specs.declared.work.Command.{Command}
 use Rattle.ct_book.specs.declared.work.Work.TheVariants as work
-use Rattle.ct_book.specs.declared.event.Event.{Event}
 use Rattle.ct_book.specs.declared.event.Event.TheVariants as event
-use Rattle.ct_book.specs.declared.event.Kind2.{Kind2}
-use Rattle.ct_book.specs.declared.event.Kind2.TheVariants as kind
-use Rattle.ct_book.specs.declared.event.Why.{Why}
-use Rattle.ct_book.specs.declared.event.Why.TheVariants.{By, Medium}
 use Rattle.ct_book.specs.declared.event.Logged.{Logged}
-use Rattle.ct_book.specs.Journals.{KeptWork, numbered, works_in, arrived, line_of}
-use Rattle.ct_book.specs.Histories.{cut_at}
-use Rattle.ct_exec.specs.Controls.{ControlState, Disk, is_unrestricted}
+use Rattle.ct_book.specs.Journals.{numbered, works_in}
+use Rattle.ct_exec.specs.Controls.{ControlState, Disk}
 use Rattle.ct_machine.specs.declared.act.Opening.{Opening}
-use Rattle.ct_machine.specs.States.{Task, Stage, Waiting, Here, Granted, There, Over, Open, Message, Arrival, State, arrival_of, is_waiting, done_at, without_task, with_task, at_stage, queued, is_b}
-use Rattle.ct_machine.specs.Events.{message, to_b_if, came_at_b, answered, new_task, leaves, over_at_b, works_of}
-use Rattle.ct_machine.specs.Serial.{disk_after, serial_disk}
-use Rattle.ct_machine.specs.Laws.{Each, has, is_entry, is_begin, is_enter, is_asked, made_at, comes_first, IsCommandOf, IsRestricted, Beside, beside}
-use Rattle.ct_law.proofs.Tasks.{Has, has_without, has_with, with_itself, has_queued}
-use Rattle.ct_law.proofs.Held.{Rules, Holds, is_active, rules_removes, removes, rules_in, enters_held}
-use Rattle.ct_law.proofs.Journal.{each_more, has_same, has_not, has_now, has_stays, has_more, made_more, quiet, Quiet, Untouched, untouched_more, IsOf}
-use Rattle.ct_law.proofs.Growing.{works_in-more, works_in-none, numbered_last, numbered_within, serial-more, beside-more}
-use Rattle.ct_law.proofs.Messages.{is_arrival, is_end, is_stop, Sent, IsStop, sent_push, sent_other, stop_other}
-use Rattle.ct_law.proofs.Books.{Books, Turns, IsAsk, IsFresh, is_over, arrival_for, books_came, books_ask, books_tell, books_in, books_turns, books_removes, books_function}
-use Rattle.ct_law.proofs.Orders.{Orders, orders_event, orders_turns, orders_removes, orders_in}
-use Rattle.ct_law.proofs.Opens.{Opens, IsAsked, HasOpen, WasActive, opens_came, opens_event, opens_queue, opens_a, opens_b}
-use Rattle.ct_law.proofs.Inv.{LawfulAt, Frame, Cells, Gained, Inv, Stays, got_at, told, replied, restricted_before, known_in, serial-same, beside-same, cells_event, cells_quiet}
+use Rattle.ct_machine.specs.States.{Task, Stage, Waiting, Here, Granted, There, Over, Open, Arrival, State, is_waiting}
+use Rattle.ct_machine.specs.Events.{works_of}
+use Rattle.ct_machine.specs.Serial.{serial_disk}
+use Rattle.ct_machine.specs.Laws.{has, is_entry, is_begin, is_enter, is_asked, comes_first}
+use Rattle.ct_law.proofs.Tasks.{Has}
+use Rattle.ct_law.proofs.Held.{Rules, Holds, is_active}
+use Rattle.ct_law.proofs.Journal.{each_more, has_same, has_not, has_now, has_stays, Untouched}
+use Rattle.ct_law.proofs.Growing.{works_in-none, serial-more}
+use Rattle.ct_law.proofs.Messages.{is_end, Sent, IsStop}
+use Rattle.ct_law.proofs.Books.{Books, IsAsk, is_over, arrival_for, books_function}
+use Rattle.ct_law.proofs.Orders.{orders_event}
+use Rattle.ct_law.proofs.Opens.{IsAsked, HasOpen, opens_event}
+use Rattle.ct_law.proofs.Inv.{LawfulAt, Frame, Inv, told, restricted_before, serial-same, cells_quiet}
 use Rattle.std.proofs.lemmas.Option.{same_Some}
 use Rattle.std.specs.List.{filter}
-use Rattle.ct_tmf.specs.declared.function.Outcome.{Outcome}
 use Rattle.ct_tmf.specs.declared.function.Outcome.TheVariants.{Complete, Succeeded, Rejected}
 use Rattle.ct_tmf.specs.Reaches.{hits}
 use Rattle.ct_book.specs.Histories.{cut_by, set_of, set_by}
 use Rattle.ct_exec.specs.Controls.{closing_control}
 use Rattle.ct_exec.specs.Executions.{refusal_of}
-use Rattle.ct_machine.specs.States.{function_of, task_of, is_here}
-use Rattle.ct_machine.specs.Events.{after, is_hit, is_awaited, awaited_by, wants_stop, stop, stops_by, is_told, taken_up, with_function, without_function, others_cut, closed, noted, awaits_no_more, is_over as over_at}
+use Rattle.ct_machine.specs.States.{is_here}
+use Rattle.ct_machine.specs.Events.{is_hit, is_awaited, awaited_by, wants_stop, stop, stops_by, is_told, taken_up, without_function, others_cut}
 use Rattle.ct_machine.specs.Acts.{outcome_of, numbers_of}
 use Rattle.ct_machine.specs.Serial.{function_done}
 use Rattle.ct_machine.specs.Laws.{ClosesBehindAll, IsFunctionOf}
 use Rattle.ct_law.proofs.Laws.{Laws}
-use Rattle.ct_law.proofs.Held.{IsSingle, rules_closes, closes_held}
+use Rattle.ct_law.proofs.Held.{rules_closes, closes_held}
 use Rattle.ct_law.proofs.Journal.{first_has, cut_more}
 use Rattle.ct_law.proofs.Growing.{numbered-map, numbered_back}
-use Rattle.ct_law.proofs.Opens.{IsIn, Opening as Opening', is_remote, opens_opens, opens_closes, has_without_function, opens_less}
+use Rattle.ct_law.proofs.Opens.{IsIn, is_remote, opens_opens, opens_closes, has_without_function, opens_less}
 use Rattle.ct_law.proofs.Steps.{rules_same, holds_same}
-use Rattle.ct_law.proofs.Moves.{not_open}
 
 -- an event of a function that is none of the task set
 

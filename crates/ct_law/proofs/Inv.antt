@@ -1,31 +1,27 @@
 -- What holds between two events, and what the journal owes at each event.
-use Rattle.std.proofs.Common.{◌≡◌, ℕ, zero, suc, ◌+◌, ◌≤◌, ◌<◌, ◌⊎◌, inl, inr, Bool, true, false, not, ◌||◌, List, [], ◌∷◌, ◌++◌, Option, Some, None, length, map, refl, sym, ap, ◌∙◌, subst, ⊎_elim, arith, nat_eq, eqb-true, eq-eqb, ne_eqb, cond, append_assoc, append-nil}
-use Rattle.std.proofs.lemmas.Bool.{cases_eq, cases_Bool, both_ways, or_left, or_right}
+use Rattle.std.proofs.Common.{◌≡◌, ℕ, ◌⊎◌, inl, Bool, true, false, List, [], ◌∷◌, ◌++◌, Some, None, length, refl, sym, ap, ◌∙◌, subst, ⊎_elim}
+use Rattle.std.proofs.lemmas.Bool.{both_ways}
 use Rattle.ct_sense.specs.declared.reply.Reply.{Reply}
-use Rattle.ct_matrix.specs.Conflicts.{is_head}
-use Rattle.ct_book.specs.declared.work.Command.{Command}
 use Rattle.ct_book.specs.declared.work.Work.TheVariants as work
 use Rattle.ct_book.specs.declared.event.Event.{Event}
 use Rattle.ct_book.specs.declared.event.Event.TheVariants as event
 use Rattle.ct_book.specs.declared.event.Why.TheVariants.{By}
 use Rattle.ct_tmf.specs.declared.function.Ask.{Ask}
 use Rattle.ct_book.specs.declared.event.Logged.{Logged}
-use Rattle.ct_book.specs.Journals.{KeptWork, numbered, works_in}
+use Rattle.ct_book.specs.Journals.{numbered, works_in}
 use Rattle.ct_exec.specs.Controls.{Disk, is_unrestricted}
 use Rattle.ct_machine.specs.declared.act.Opening.{Opening}
-use Rattle.ct_machine.specs.States.{Task, Stage, Waiting, Here, Granted, There, Over, Message, Arrival, State, is_waiting, has_begun, done_at, without_task, with_task, at_stage}
-use Rattle.ct_machine.specs.Events.{after, works_of}
-use Rattle.ct_machine.specs.Runs.{replay}
+use Rattle.ct_machine.specs.States.{Task, Stage, Waiting, Here, There, Arrival, State, is_waiting, has_begun}
+use Rattle.ct_machine.specs.Events.{works_of}
 use Rattle.ct_machine.specs.Serial.{disk_after, serial_disk}
-use Rattle.ct_machine.specs.Laws.{EachBehind, Each, has, is_entry, is_begin, is_enter, comes_first, IsCommandOf, IsFunctionOf, IsFirstEntry, goes_first, IsBehindAll, BeginsOrderly, RecordsPrefixAt, RepliesByCells, IsRestricted, IsLegalAt, IsSoundAt, Beside, beside, beside_after}
-use Rattle.ct_law.proofs.Tasks.{Has, precedes}
+use Rattle.ct_machine.specs.Laws.{Each, has, is_entry, is_begin, is_enter, comes_first, IsCommandOf, IsFunctionOf, IsFirstEntry, goes_first, IsBehindAll, BeginsOrderly, RecordsPrefixAt, RepliesByCells, IsRestricted, IsLegalAt, IsSoundAt, Beside, beside, beside_after}
+use Rattle.ct_law.proofs.Tasks.{Has}
 use Rattle.ct_law.proofs.Laws.{Laws}
-use Rattle.ct_law.proofs.Held.{Rules, Holds, is_active, IsSingle}
+use Rattle.ct_law.proofs.Held.{Rules, Holds}
 use Rattle.ct_law.proofs.Ready.{IsReady}
 use Rattle.ct_law.proofs.Ends.{ready_must}
 use Rattle.ct_law.proofs.Journal.{each_front, each_last}
 use Rattle.ct_law.proofs.Growing.{numbered-map, serial-more, beside-more}
-use Rattle.ct_law.proofs.Messages.{is_grant, is_end, Sent}
 use Rattle.ct_law.proofs.Books.{Books, is_over, arrival_for}
 use Rattle.ct_law.proofs.Orders.{Orders}
 use Rattle.ct_law.proofs.Opens.{Opens}

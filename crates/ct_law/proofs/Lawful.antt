@@ -1,32 +1,27 @@
 -- Every run is lawful.
-use Rattle.std.proofs.Common.{◌≡◌, ℕ, zero, suc, ◌⊎◌, inl, inr, Bool, true, false, List, [], ◌∷◌, ◌++◌, Option, Some, None, map, drop, refl, sym, ap, ◌∙◌, subst, ⊎_elim, append_assoc}
-use Rattle.std.proofs.lemmas.Bool.{both_ways}
+use Rattle.std.proofs.Common.{◌≡◌, ℕ, zero, suc, inl, inr, Bool, true, false, List, [], ◌∷◌, ◌++◌, Option, Some, None, map, drop, refl, sym, ap, ◌∙◌, subst}
 use Rattle.std.proofs.lemmas.Option.{same_Some}
 use Rattle.std.specs.Prelude.{is_some, slice_get}
 use Rattle.std.specs.List.{filter}
-use Rattle.ct_tmf.specs.declared.function.Ask.{Ask}
-use Rattle.ct_book.specs.declared.work.Command.{Command}
 use Rattle.ct_book.specs.declared.work.Work.TheVariants as work
 use Rattle.ct_book.specs.declared.event.Event.{Event}
 use Rattle.ct_book.specs.declared.event.Event.TheVariants as event
 use Rattle.ct_book.specs.declared.event.Why.TheVariants.{By, Medium}
 use Rattle.ct_book.specs.declared.event.Logged.{Logged}
-use Rattle.ct_book.specs.Journals.{KeptWork, numbered, works_in}
+use Rattle.ct_book.specs.Journals.{KeptWork, numbered}
 use Rattle.ct_exec.specs.Controls.{is_unrestricted}
-use Rattle.ct_exec.specs.Executions.{execute}
 use Rattle.ct_machine.specs.declared.act.Opening.{Opening}
 use Rattle.ct_machine.specs.States.{Task, Arrival, State}
 use Rattle.ct_machine.specs.Acts.{numbers_of}
 use Rattle.ct_machine.specs.Serial.{serial_disk}
 use Rattle.ct_machine.specs.Runs.{replay, IsRun}
-use Rattle.ct_machine.specs.Laws.{EachBehind, Each, has, is_entry, is_enter, work_in, IsQuiet, EachOnce, IsRestricted, IsLegal, IsLegalAt, Due, is_of, due_by, due_after, due_behind, due_of, IsCutByCommand, IsTimelyAt, IsTimely, IsLawful}
+use Rattle.ct_machine.specs.Laws.{EachBehind, Each, has, is_entry, is_enter, work_in, IsQuiet, IsLegalAt, Due, is_of, due_by, due_after, due_behind, due_of, IsCutByCommand, IsTimelyAt, IsLawful}
 use Rattle.ct_law.proofs.Tasks.{Has}
 use Rattle.ct_law.proofs.Journal.{each_more}
 use Rattle.ct_law.proofs.Held.{idle_same}
-use Rattle.ct_law.proofs.Laws.{Laws}
 use Rattle.ct_law.proofs.Commands.{laws}
 use Rattle.ct_law.proofs.Cleared.{due_none}
-use Rattle.ct_law.proofs.Inv.{LawfulAt, IsCutByFunction, Inv}
+use Rattle.ct_law.proofs.Inv.{LawfulAt, IsCutByFunction}
 use Rattle.ct_law.proofs.Books.{IsAsk}
 use Rattle.ct_law.proofs.Walk.{Now, NoneDue}
 use Rattle.ct_law.proofs.Comings.{every_run}

@@ -1,38 +1,28 @@
 -- Ends and cuts of commands.
-use Rattle.std.proofs.Common.{◌≡◌, ℕ, zero, suc, ◌+◌, ◌≤◌, ◌<◌, ◌⊎◌, inl, inr, Bool, true, false, not, ◌||◌, List, [], ◌∷◌, ◌++◌, Option, Some, None, length, map, refl, sym, ap, ◌∙◌, subst, ⊎_elim, arith, nat_eq, eqb-true, eq-eqb, ne_eqb, cond, take, slice_get, append_assoc, append-nil, length-append}
+use Rattle.std.proofs.Common.{◌≡◌, ℕ, ◌≤◌, inl, inr, Bool, true, false, not, List, [], ◌∷◌, ◌++◌, Some, None, length, refl, sym, ap, ◌∙◌, subst, ⊎_elim, arith, nat_eq, eqb-true, eq-eqb, ne_eqb, take, slice_get}
 use Rattle.std.proofs.lemmas.Option.{same_Some}
-use Rattle.std.proofs.lemmas.Bool.{cases_eq, cases_Bool, both_ways, or_left, or_right, or_from}
+use Rattle.std.proofs.lemmas.Bool.{both_ways}
 use Rattle.ct_word.specs.declared.names.Node.{Node}
-use Rattle.ct_word.specs.declared.names.Node.TheVariants.{A, B}
-use Rattle.ct_word.specs.declared.names.Room.{Room}
-use Rattle.ct_sense.specs.declared.reply.Reply.{Reply}
 use Rattle.ct_tmf.specs.declared.function.Ask.{Ask}
 use Rattle.ct_book.specs.declared.work.Command.{Command}
 use Rattle.ct_book.specs.declared.work.Work.TheVariants as work
-use Rattle.ct_book.specs.declared.event.Event.{Event}
 use Rattle.ct_book.specs.declared.event.Event.TheVariants as event
-use Rattle.ct_book.specs.declared.event.Kind2.{Kind2}
-use Rattle.ct_book.specs.declared.event.Kind2.TheVariants as kind
 use Rattle.ct_book.specs.declared.event.Why.{Why}
 use Rattle.ct_book.specs.declared.event.Why.TheVariants.{By, Medium}
 use Rattle.ct_book.specs.declared.event.Logged.{Logged}
-use Rattle.ct_book.specs.Journals.{KeptWork, numbered, works_in, arrived, line_of}
+use Rattle.ct_book.specs.Journals.{numbered, works_in}
 use Rattle.ct_book.specs.Histories.{cut_at}
-use Rattle.ct_exec.specs.Controls.{ControlState, Disk, is_unrestricted}
+use Rattle.ct_exec.specs.Controls.{Disk, is_unrestricted}
 use Rattle.ct_machine.specs.declared.act.Opening.{Opening}
-use Rattle.ct_machine.specs.States.{Task, Stage, Waiting, Here, Granted, There, Over, Open, Message, Arrival, State, arrival_of, is_waiting, done_at, without_task, with_task, at_stage, queued, is_b}
-use Rattle.ct_machine.specs.Events.{message, to_b_if, came_at_b, answered, new_task, leaves, over_at_b, works_of}
+use Rattle.ct_machine.specs.States.{Task, Stage, Waiting, Over, Open, Arrival, State, is_waiting, done_at, with_task, at_stage}
 use Rattle.ct_machine.specs.Serial.{disk_after, serial_disk}
-use Rattle.ct_machine.specs.Laws.{Each, has, is_entry, is_begin, is_enter, is_asked, made_at, comes_first, IsCommandOf, IsRestricted, Beside, beside}
-use Rattle.ct_law.proofs.Tasks.{Has, has_without, has_with, with_itself, has_queued}
-use Rattle.ct_law.proofs.Held.{Rules, Holds, is_active, rules_removes, removes, rules_in, enters_held}
-use Rattle.ct_law.proofs.Journal.{each_more, has_same, has_not, has_now, has_stays, has_more, made_more, quiet, Quiet, Untouched, untouched_more, IsOf}
-use Rattle.ct_law.proofs.Growing.{works_in-more, works_in-none, numbered-map, serial-more, beside-more}
-use Rattle.ct_law.proofs.Messages.{is_arrival, is_end, is_stop, Sent, IsStop, sent_push, sent_other, stop_other}
-use Rattle.ct_law.proofs.Books.{Books, Turns, IsAsk, IsFresh, is_over, arrival_for, books_came, books_ask, books_tell, books_in, books_turns, books_removes, books_function}
-use Rattle.ct_law.proofs.Orders.{Orders, orders_event, orders_turns, orders_removes, orders_in}
-use Rattle.ct_law.proofs.Opens.{Opens, IsAsked, HasOpen, WasActive, opens_came, opens_event, opens_queue, opens_a, opens_b, opens_cut}
-use Rattle.ct_law.proofs.Inv.{LawfulAt, Frame, Cells, Gained, Inv, Stays, got_at, told, replied, is_move, restricted_before, known_in, serial-same, beside-same, cells_event, cells_quiet}
+use Rattle.ct_machine.specs.Laws.{has, is_entry, is_begin, is_enter, is_asked, IsCommandOf, IsRestricted, beside}
+use Rattle.ct_law.proofs.Tasks.{Has}
+use Rattle.ct_law.proofs.Held.{Rules, Holds, is_active}
+use Rattle.ct_law.proofs.Growing.{numbered-map}
+use Rattle.ct_law.proofs.Books.{is_over, arrival_for}
+use Rattle.ct_law.proofs.Opens.{Opens, HasOpen, opens_event, opens_cut}
+use Rattle.ct_law.proofs.Inv.{LawfulAt, Frame, Gained, Inv, got_at, told, replied, is_move, known_in}
 use Rattle.ct_tmf.specs.Reaches.{hits}
 use Rattle.ct_plan.specs.declared.operation.BlockOp.{BlockOp}
 use Rattle.ct_plan.specs.Plans.{puts_among}
@@ -41,11 +31,11 @@ use Rattle.ct_machine.specs.States.{disk_of}
 use Rattle.ct_machine.specs.Events.{noted, is_hit}
 use Rattle.ct_machine.specs.Serial.{command_ran, command_cut, cut_disk}
 use Rattle.ct_machine.specs.Laws.{made_by, RepliesAsExecuted, IsCutFor}
-use Rattle.ct_law.proofs.Laws.{Laws, has_operations, IsOnce, Same}
+use Rattle.ct_law.proofs.Laws.{Laws, IsOnce, Same}
 use Rattle.ct_law.proofs.Ready.{IsReady}
 use Rattle.ct_law.proofs.Ends.{IsAt, at_active, at_done, running_in, cut_held, cut_rules, ran_held, ran_rules, once_same, once_rules, once_held, puts_at, disk_cut}
 use Rattle.ct_law.proofs.Inv.{in_order}
-use Rattle.ct_law.proofs.Entries.{Own, Over_by, over_state, entry_so}
+use Rattle.ct_law.proofs.Entries.{Own, over_state, entry_so}
 use Rattle.ct_law.proofs.Moves.{own_alone, not_open}
 
 -- facts about a command of the task set that isn't over

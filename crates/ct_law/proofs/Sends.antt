@@ -319,13 +319,15 @@ with_arrival s node w = record s { arrivals = s.arrivals ++ record { node = node
 
 fine_arrival : (size : ℕ) (s : State) (node : Node) (w : KeptWork) → IsFine size s → IsFineWith size (next_number s) (with_arrival s node w)
 fine_arrival size s node w h =
-    let more : length (s.arrivals ++ record { node = node; work = w } ∷ []) ≡ length s.arrivals + 1 = length-append s.arrivals (record { node = node; work = w } ∷ []) in
-    (record {
-      single = h.single;
-      new = λ n l. h.new n (omega (arith, l, more));
-      told = h.told;
-      sized = h.sized;
-    }, record { none = h.new (next_number s) (omega arith); within = omega (arith, more) })
+    let more : length (s.arrivals ++ record { node = node; work = w } ∷ []) ≡ length s.arrivals + 1 = length-append s.arrivals (record { node = node; work = w } ∷ []) in (
+      record {
+        single = h.single;
+        new = λ n l. h.new n (omega (arith, l, more));
+        told = h.told;
+        sized = h.sized;
+      },
+      record { none = h.new (next_number s) (omega arith); within = omega (arith, more) },
+    )
 
 pub fine_came_a : (size : ℕ) (s : State) (w : KeptWork) → IsFine size s → IsFineWith size (next_number s) (after_came (next_number s) A (Some w) s)
 fine_came_a size s (work.Cmd command) h = fine_arrival size s A (work.Cmd command) h

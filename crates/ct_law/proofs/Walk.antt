@@ -1,44 +1,33 @@
 -- A work enters, or a function is taken up, cuts what it hits and closes: what holds after these turns.
-use Rattle.std.proofs.Common.{◌≡◌, ℕ, zero, suc, ◌+◌, ◌≤◌, ◌<◌, ◌⊎◌, inl, inr, Bool, true, false, not, ◌||◌, List, [], ◌∷◌, ◌++◌, Option, Some, None, length, map, refl, sym, ap, ◌∙◌, subst, ⊎_elim, arith, nat_eq, eqb-true, eq-eqb, ne_eqb, cond, ◌&&◌, append_assoc, append-nil, length-append}
-use Rattle.std.proofs.lemmas.Bool.{cases_eq, cases_Bool, both_ways, or_left, or_right, or_from, and_parts, eqb-false}
+use Rattle.std.proofs.Common.{◌≡◌, ℕ, ◌≤◌, ◌⊎◌, inl, inr, Bool, true, false, List, [], ◌∷◌, ◌++◌, Option, Some, None, length, refl, sym, ap, ◌∙◌, subst, ⊎_elim, nat_eq, eqb-true, eq-eqb, ne_eqb, cond, ◌&&◌, append_assoc, append-nil}
+use Rattle.std.proofs.lemmas.Bool.{both_ways, and_parts, eqb-false}
 use Rattle.ct_word.specs.declared.names.Node.{Node}
-use Rattle.ct_word.specs.declared.names.Node.TheVariants.{A, B}
-use Rattle.ct_word.specs.declared.names.Room.{Room}
 use Rattle.ct_sense.specs.declared.reply.Reply.{Reply}
 use Rattle.ct_tmf.specs.declared.function.Ask.{Ask}
 use Rattle.ct_book.specs.declared.work.Command.{Command}
 use Rattle.ct_book.specs.declared.work.Work.TheVariants as work
-use Rattle.ct_book.specs.declared.event.Event.{Event}
 use Rattle.ct_book.specs.declared.event.Event.TheVariants as event
-use Rattle.ct_book.specs.declared.event.Kind2.{Kind2}
 use Rattle.ct_book.specs.declared.event.Kind2.TheVariants as kind
-use Rattle.ct_book.specs.declared.event.Why.{Why}
-use Rattle.ct_book.specs.declared.event.Why.TheVariants.{By, Medium}
+use Rattle.ct_book.specs.declared.event.Why.TheVariants.{By}
 use Rattle.ct_book.specs.declared.event.Logged.{Logged}
-use Rattle.ct_book.specs.Journals.{KeptWork, numbered, works_in, arrived, line_of}
-use Rattle.ct_book.specs.Histories.{cut_at}
-use Rattle.ct_exec.specs.Controls.{ControlState, Disk, is_unrestricted}
+use Rattle.ct_book.specs.Journals.{numbered}
 use Rattle.ct_machine.specs.declared.act.Opening.{Opening}
-use Rattle.ct_machine.specs.States.{Task, Stage, Waiting, Here, Granted, There, Over, Open, Message, Arrival, State, arrival_of, is_waiting, done_at, without_task, with_task, at_stage, queued, is_b}
-use Rattle.ct_machine.specs.Events.{message, to_b_if, came_at_b, answered, new_task, leaves, over_at_b, works_of}
-use Rattle.ct_machine.specs.Serial.{disk_after, serial_disk}
-use Rattle.ct_machine.specs.Laws.{Each, has, is_entry, is_begin, is_enter, is_asked, made_at, comes_first, IsCommandOf, IsRestricted, Beside, beside}
-use Rattle.ct_law.proofs.Tasks.{Has, has_without, has_with, with_itself, has_queued}
-use Rattle.ct_law.proofs.Held.{Rules, Holds, is_active, rules_removes, removes, rules_in, enters_held}
-use Rattle.ct_law.proofs.Journal.{each_more, has_same, has_not, has_now, has_stays, has_more, made_more, quiet, Quiet, Untouched, untouched_more, IsOf}
-use Rattle.ct_law.proofs.Growing.{works_in-more, works_in-none, numbered-map, serial-more, beside-more}
-use Rattle.ct_law.proofs.Messages.{is_arrival, is_end, is_stop, Sent, IsStop, sent_push, sent_other, stop_other}
-use Rattle.ct_law.proofs.Books.{Books, Turns, IsAsk, IsFresh, is_over, arrival_for, books_came, books_ask, books_tell, books_in, books_turns, books_removes, books_function}
-use Rattle.ct_law.proofs.Orders.{Orders, orders_event, orders_turns, orders_removes, orders_in}
-use Rattle.ct_law.proofs.Opens.{Opens, IsAsked, HasOpen, WasActive, opens_came, opens_event, opens_queue, opens_a, opens_b}
-use Rattle.ct_law.proofs.Inv.{LawfulAt, Frame, Cells, Gained, Inv, Stays, got_at, told, replied, restricted_before, known_in, serial-same, beside-same, cells_event, cells_quiet}
+use Rattle.ct_machine.specs.States.{Task, Stage, Waiting, Here, Granted, There, Over, Open, Arrival, State, arrival_of, without_task, with_task, at_stage, queued}
+use Rattle.ct_machine.specs.Events.{answered, new_task}
+use Rattle.ct_machine.specs.Laws.{has, is_entry, is_enter, is_asked, IsCommandOf}
+use Rattle.ct_law.proofs.Tasks.{Has, has_without}
+use Rattle.ct_law.proofs.Journal.{has_not, has_now, has_stays, Untouched}
+use Rattle.ct_law.proofs.Growing.{numbered-map}
+use Rattle.ct_law.proofs.Books.{IsAsk, is_over, arrival_for}
+use Rattle.ct_law.proofs.Opens.{HasOpen}
+use Rattle.ct_law.proofs.Inv.{Inv, told, replied}
 use Rattle.std.proofs.lemmas.Option.{same_Some}
 use Rattle.std.specs.Prelude.{nat_le}
 use Rattle.ct_tmf.specs.declared.function.Outcome.{Outcome}
-use Rattle.ct_tmf.specs.declared.function.Outcome.TheVariants.{Complete, Succeeded, Rejected}
+use Rattle.ct_tmf.specs.declared.function.Outcome.TheVariants.{Rejected}
 use Rattle.ct_machine.specs.States.{function_of, task_of, is_here}
-use Rattle.ct_machine.specs.Events.{after, after_enter, is_hit, is_told, taken_up, after_cut, cut_at as cut_from, after_closed, closed, after_asked, noted}
-use Rattle.ct_machine.specs.Acts.{outcome_of, Turn, nothing, writes, says, replies, followed, turned_cause, entering_with, entering, most_open, puts_of, cutting, numbers_of, cutting_all, closing_if, closing, open_numbers, closing_all, taking_up, asking}
+use Rattle.ct_machine.specs.Events.{after, after_enter, is_hit, is_told, taken_up, after_cut, cut_at as cut_from, closed, after_asked, noted}
+use Rattle.ct_machine.specs.Acts.{outcome_of, Turn, nothing, writes, says, followed, turned_cause, entering_with, entering, most_open, puts_of, cutting, numbers_of, cutting_all, closing_if, closing, closing_all, taking_up, asking}
 use Rattle.ct_machine.specs.Runs.{replay}
 use Rattle.ct_law.proofs.Laws.{Laws}
 use Rattle.ct_law.proofs.Held.{IsSingle}
@@ -49,7 +38,7 @@ use Rattle.ct_law.proofs.Steps.{answers, enter_so}
 use Rattle.ct_law.proofs.Ends.{puts_at}
 use Rattle.ct_law.proofs.Entries.{turned_so, leaves_so}
 use Rattle.ct_law.proofs.Overs.{by_so}
-use Rattle.ct_law.proofs.Functions.{IsDue, Due, rejected_so, closes_so, asked_so, numbers_has}
+use Rattle.ct_law.proofs.Functions.{IsDue, Due, rejected_so, closes_so, asked_so}
 
 -- what holds of a state behind a journal, which is its replay
 pub record Now (P : ℕ → ℕ → Type 0) (o : Opening) (s : State) (journal : List Logged) : Type 0 where

@@ -1,0 +1,17 @@
+//! That runs go on, and how long their journals are.
+
+ghost use Rattle.std.specs.Prelude.{◌≤◌, List, length};
+ghost use Rattle.ct_book.specs.declared.event.Logged.{Logged};
+ghost use Rattle.ct_machine.specs.declared.act.Opening.{Opening};
+ghost use Rattle.ct_machine.specs.Runs.{IsRun};
+ghost use Rattle.ct_machine.specs.Laws.{NeverStops, reserved_events};
+
+/// Behind every run with a live command something can be done next.
+pub fn runs_never_stop()
+    ensures { (opening : Opening) (journal : List Logged) → IsRun opening journal → NeverStops opening journal }
+{}
+
+/// All acts together write at most as many events as the room of the opening reserves.
+pub fn runs_fit_their_room()
+    ensures { (opening : Opening) (journal : List Logged) → IsRun opening journal → length journal ≤ reserved_events opening }
+{}
