@@ -1,0 +1,12 @@
+//! The core of one logical unit: its task set, its control, its medium and the pool of blocks that commands lease.
+#![tactic(auto)]
+
+mod mechanics;
+mod said;
+mod search;
+mod slot;
+mod unit;
+
+pub use said::{Entered, Stepped};
+pub use slot::Slot;
+pub use unit::Lun;
