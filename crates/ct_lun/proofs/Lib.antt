@@ -1,2 +1,5 @@
 pub mod Lists
 pub mod Tasks
+pub mod Keeps
+pub mod Turns
+pub mod Effects

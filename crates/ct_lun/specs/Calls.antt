@@ -1,5 +1,5 @@
 -- What the calls of a unit do.
-use Rattle.std.specs.Prelude.{◌≡◌, ℕ, ◌+◌, ◌<◌, ◌≤◌, List, [], ◌++◌, ◌∷◌, length, map, Option, None, Some, IsSome, IfSome, slice_set, remove, Bool, true, false}
+use Rattle.std.specs.Prelude.{◌≡◌, ℕ, zero, suc, ◌+◌, ◌<◌, ◌≤◌, List, [], ◌++◌, ◌∷◌, length, map, Option, None, Some, IsSome, IfSome, slice_set, remove, Bool, true, false}
 use Rattle.ct_sense.specs.declared.reply.Reply.{Reply}
 use Rattle.ct_pool.specs.Leases.{Gives}
 use Rattle.ct_plan.specs.declared.task.Task.{Task as PlanTask}
@@ -8,6 +8,7 @@ use Rattle.ct_plan.specs.Pieces.{Advances, Uses, fault_in}
 use Rattle.ct_plan.specs.Tasks.{IsReady, asked}
 use Rattle.ct_matrix.specs.Queues.{without}
 use Rattle.ct_book.specs.declared.event.Event.{Event}
+use Rattle.ct_book.specs.declared.event.Event.TheVariants as event
 use Rattle.ct_book.specs.declared.event.Logged.{Logged}
 use Rattle.ct_book.specs.Journals.{BookState, with_event, with_reply}
 use Rattle.ct_exec.specs.declared.refusal.Refusal.{Refusal}
@@ -64,6 +65,18 @@ pub record Wrote (desk desk' : Desk) (book book' : BookState) (events : List Log
   pub agrees : Agrees desk' book'
   pub spare : book'.spare + length events ≡ book.spare
   pub works : book'.works ≡ book.works
+
+-- an event that counts alone, and one with a reply
+abbrev pub told : Event → Logged
+told event = record { event = event; work = None; reply = None }
+
+abbrev pub replied : Event → Reply → Logged
+replied event reply = record { event = event; work = None; reply = Some reply }
+
+-- what is written of a command that made so many operations
+abbrev pub moved_journal : ℕ → ℕ → List Logged
+moved_journal number zero = []
+moved_journal number (suc count) = told (event.Moved number (suc count)) ∷ []
 
 -- the room that the state asks for fell by as many events at least
 abbrev pub Spends : Desk → Desk → BookState → BookState → ℕ → Type 0
