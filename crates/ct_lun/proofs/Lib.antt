@@ -3,3 +3,5 @@ pub mod Tasks
 pub mod Keeps
 pub mod Turns
 pub mod Effects
+pub mod Moves
+pub mod Spent
