@@ -29,7 +29,7 @@ use Rattle.ct_lun.specs.Desk.{Desk, slot_at, with_control}
 use Rattle.ct_lun.specs.States.{command_in, stage_of, task_in, tasks_in, at_a, state_of}
 use Rattle.ct_lun.specs.Agreement.{SlotAgrees, IsFresh, Agrees}
 use Rattle.ct_lun.specs.Rooms.{room_at, task_room, room_of}
-use Rattle.ct_lun.specs.Calls.{Goes, Leaves, Wrote, Spends, closed_book, told, replied, moved_journal}
+use Rattle.ct_lun.specs.Calls.{Goes, Leaves, Wrote, Spends, IsOver, by_end, by_medium, closed_book, told, replied, moved_journal}
 use Rattle.ct_lun.proofs.Lists.{slot_read, map_set, map_remove, map_same, sum_set, sum_remove, get_set}
 use Rattle.ct_lun.proofs.Tasks.{task_at, without_at, with_at}
 use Rattle.ct_lun.proofs.Keeps.{slot_agrees, task_found, positive, get_map, agrees_left, agrees_begun, agrees_moved, agrees_control}
@@ -85,11 +85,6 @@ ended_here task done got s stage here = rw stage (answered_here task.no (leaves 
 failed_here : (task : Task) (done : ℕ) (got : List ℕ) (s : State) → task.stage ≡ Here done got → came_at_b (arrival_of task.no s) ≡ false → cut_at Medium task.stage task s ≡ leaves task.no s
 failed_here task done got s stage here = rw stage (answered_here task.no (leaves task.no s) here)
 
--- an event by which a command that began is over
-pub data IsOver (number : ℕ) : Event → Type 0 where
-  by_end : IsOver number (event.Ended number)
-  by_medium : (puts : ℕ) → IsOver number (event.Cut number puts Medium false)
-
 over_state : (d : Desk) (p : BookState) (at : ℕ) (e : Event) → Agrees d p → at < length d.slots → (slot_at d.slots at).begun ≡ true → IsOver (slot_at d.slots at).no e → after_event e None (state_of d p) ≡ leaves (slot_at d.slots at).no (state_of d p)
 over_state d p at e a h begun by_end =
     let slot = slot_at d.slots at in
@@ -101,7 +96,7 @@ over_state d p at e a h begun (by_medium puts) =
     rw found (failed_here (task_in p.works slot) slot.task.done slot.task.body.items (state_of d p) (stage_begun slot begun) (came_here p.works slot.no))
 
 -- the reply that was kept counts with the event
-reply_kept : (p : BookState) (number : ℕ) (reply : Reply) → numbered number p.replies ≡ Some None → reply_in (slice_set p.replies (number - 1) (Some reply)) number ≡ Some reply
+pub reply_kept : (p : BookState) (number : ℕ) (reply : Reply) → numbered number p.replies ≡ Some None → reply_in (slice_set p.replies (number - 1) (Some reply)) number ≡ Some reply
 reply_kept p zero reply unanswered = cc
 reply_kept p (suc before) reply unanswered =
     let place : suc before - 1 ≡ before = omega arith in

@@ -5,3 +5,4 @@ pub mod Turns
 pub mod Effects
 pub mod Moves
 pub mod Spent
+pub mod Books

@@ -183,3 +183,16 @@ pub get_set : {A : Type 0} (xs : List A) (at : ℕ) (x z : A) → slice_get xs a
 get_set [] at x z read = cc
 get_set (y ∷ ys) zero x z read = refl
 get_set (y ∷ ys) (suc at) x z read = get_set ys at x z read
+
+-- each of some items, without one and with one replaced
+
+pub each_drop : {A : Type 0} (P : A → Type 0) (xs : List A) (at : ℕ) → Each P xs → Each P (remove xs at)
+each_drop P [] zero each = tt
+each_drop P [] (suc at) each = tt
+each_drop P (x ∷ xs) zero each = each.1
+each_drop P (x ∷ xs) (suc at) each = (each.0, each_drop P xs at each.1)
+
+pub each_put : {A : Type 0} (P : A → Type 0) (xs : List A) (at : ℕ) (z : A) → Each P xs → P z → Each P (slice_set xs at z)
+each_put P [] at z each new = tt
+each_put P (x ∷ xs) zero z each new = (new, each.1)
+each_put P (x ∷ xs) (suc at) z each new = (each.0, each_put P xs at z each.1 new)

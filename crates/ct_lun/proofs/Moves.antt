@@ -18,7 +18,7 @@ use Rattle.ct_lun.specs.declared.slot.Slot.{Slot}
 use Rattle.ct_lun.specs.Desk.{Desk, slot_at}
 use Rattle.ct_lun.specs.States.{command_in, stage_of, task_in, tasks_in, state_of}
 use Rattle.ct_lun.specs.Agreement.{SlotAgrees, Agrees}
-use Rattle.ct_lun.specs.Calls.{Goes, Wrote, moved_journal}
+use Rattle.ct_lun.specs.Calls.{Goes, Wrote, moved_journal, moved_book}
 use Rattle.ct_lun.proofs.Lists.{slot_read, map_set, map_same}
 use Rattle.ct_lun.proofs.Tasks.{with_at}
 use Rattle.ct_lun.proofs.Keeps.{slot_agrees, task_found, get_map, agrees_moved}
@@ -106,10 +106,6 @@ moved_state d d' p at count piece a h begun g = go piece.moved refl
         ∙ ap (λ (j : ℕ). after_moved (task_of (slot_at d.slots at).no (state_of d p).tasks) j (state_of d p)) e
         ∙ sym (moved_after (slot_at d.slots at).no k (state_of d p))
         ∙ ap (λ (j : ℕ). after_events (state_of d p) (moved_journal (slot_at d.slots at).no j)) (sym e)
-
--- the book behind a piece
-abbrev pub moved_book : BookState → ℕ → ℕ → BookState
-moved_book book number count = record book { journal = book.journal ++ moved_journal number count; spare = book.spare - length (moved_journal number count) }
 
 pub moved_few : (number count : ℕ) → length (moved_journal number count) ≤ 1
 moved_few number zero = omega arith

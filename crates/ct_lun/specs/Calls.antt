@@ -1,5 +1,6 @@
 -- What the calls of a unit do.
-use Rattle.std.specs.Prelude.{◌≡◌, ℕ, zero, suc, ◌+◌, ◌<◌, ◌≤◌, List, [], ◌++◌, ◌∷◌, length, map, Option, None, Some, IsSome, IfSome, slice_set, remove, Bool, true, false}
+use Rattle.std.specs.Prelude.{◌≡◌, ℕ, zero, suc, ◌+◌, ◌-◌, ◌<◌, ◌≤◌, List, [], ◌++◌, ◌∷◌, length, map, Option, None, Some, IsSome, IfSome, slice_set, remove, Bool, true, false}
+use Rattle.ct_word.specs.Nexuses.{no_nexuses}
 use Rattle.ct_sense.specs.declared.reply.Reply.{Reply}
 use Rattle.ct_pool.specs.Leases.{Gives}
 use Rattle.ct_plan.specs.declared.task.Task.{Task as PlanTask}
@@ -9,10 +10,11 @@ use Rattle.ct_plan.specs.Tasks.{IsReady, asked}
 use Rattle.ct_matrix.specs.Queues.{without}
 use Rattle.ct_book.specs.declared.event.Event.{Event}
 use Rattle.ct_book.specs.declared.event.Event.TheVariants as event
+use Rattle.ct_book.specs.declared.event.Why.TheVariants.{By, Medium}
 use Rattle.ct_book.specs.declared.event.Logged.{Logged}
 use Rattle.ct_book.specs.Journals.{BookState, with_event, with_reply}
 use Rattle.ct_exec.specs.declared.refusal.Refusal.{Refusal}
-use Rattle.ct_exec.specs.Executions.{good}
+use Rattle.ct_exec.specs.Executions.{good, execute}
 use Rattle.ct_exec.specs.Refusals.{refused_reply}
 use Rattle.ct_machine.specs.declared.act.Answer.{Answer}
 use Rattle.ct_machine.specs.declared.act.Answer.TheVariants as answer
@@ -23,8 +25,8 @@ use Rattle.ct_lun.specs.declared.said.Entered.{Entered}
 use Rattle.ct_lun.specs.declared.said.Entered.TheVariants as entered
 use Rattle.ct_lun.specs.declared.said.Stepped.{Stepped}
 use Rattle.ct_lun.specs.declared.said.Stepped.TheVariants as stepped
-use Rattle.ct_lun.specs.Desk.{Desk, slot_at}
-use Rattle.ct_lun.specs.States.{state_of}
+use Rattle.ct_lun.specs.Desk.{Desk, slot_at, with_control}
+use Rattle.ct_lun.specs.States.{command_in, state_of}
 use Rattle.ct_lun.specs.Agreement.{Agrees, AgreesWith}
 use Rattle.ct_lun.specs.Rooms.{room_of}
 
@@ -58,6 +60,11 @@ ending_reply None got = good got
 abbrev pub closed_book : BookState → ℕ → Reply → Event → BookState
 closed_book book number reply event = with_event (with_reply book number reply) event
 
+-- an event by which a command is over: it ended, or the medium failed it
+pub data IsOver (number : ℕ) : Event → Type 0 where
+  by_end : IsOver number (event.Ended number)
+  by_medium : (puts : ℕ) → IsOver number (event.Cut number puts Medium false)
+
 -- a call wrote these events, and led the unit and the book to the state behind them
 pub record Wrote (desk desk' : Desk) (book book' : BookState) (events : List Logged) : Type 0 where
   pub journal : book'.journal ≡ book.journal ++ events
@@ -77,6 +84,17 @@ replied event reply = record { event = event; work = None; reply = Some reply }
 abbrev pub moved_journal : ℕ → ℕ → List Logged
 moved_journal number zero = []
 moved_journal number (suc count) = told (event.Moved number (suc count)) ∷ []
+
+-- the book behind a piece
+abbrev pub moved_book : BookState → ℕ → ℕ → BookState
+moved_book book number count = record book { journal = book.journal ++ moved_journal number count; spare = book.spare - length (moved_journal number count) }
+
+-- the command at a place was executed at once, which left the blocks as they were, and cleared no nexus
+pub record EndsAtOnce (desk desk' : Desk) (book book' : BookState) (at : ℕ) : Type 0 where
+  pub reply : Reply
+  pub leaves : Leaves (with_control desk desk'.control) desk' at
+  pub execution : execute (record { control = desk.control; blocks = desk.blocks }) (command_in book.works (slot_at desk.slots at).no) ≡ record { disk = record { control = desk'.control; blocks = desk.blocks }; reply = reply; cleared = no_nexuses }
+  pub kept : book' ≡ closed_book book (slot_at desk.slots at).no reply (event.Ended (slot_at desk.slots at).no)
 
 -- the room that the state asks for fell by as many events at least
 abbrev pub Spends : Desk → Desk → BookState → BookState → ℕ → Type 0
