@@ -24,4 +24,9 @@ impl Lease {
     {
         self.count
     }
+
+    /// Lets go of a lease whose pool is let go too: its blocks don't go back.
+    pub fn abandon(self) {
+        let Lease { key: _, count: _ } = self;
+    }
 }

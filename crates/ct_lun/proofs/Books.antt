@@ -1,0 +1,58 @@
+-- What may be written into the book of a unit.
+use Rattle.std.proofs.Common.{◌≡◌, ℕ, List, [], ◌∷◌, Bool, true, false, Option, Some, None, IsSome, IsSomeAnd, Result, Ok, Err, ◌<◌, length, slice_set, refl, sym, ap, ◌∙◌, subst, ◌-◌}
+use Rattle.ct_word.specs.Nexuses.{no_nexuses}
+use Rattle.ct_cdb.specs.declared.op.Cdb.{Cdb}
+use Rattle.ct_cdb.specs.declared.op.CdbFault.{CdbFault}
+use Rattle.ct_cdb.specs.Forms.{cdb_of}
+use Rattle.ct_exec.specs.Controls.{Disk}
+use Rattle.ct_exec.specs.Executions.{Execution, execute, executed, effect_of, refusal_of}
+use Rattle.ct_book.specs.declared.work.Command.{Command}
+use Rattle.ct_sense.specs.declared.reply.Reply.{Reply}
+use Rattle.ct_matrix.specs.declared.held.HeldCommand.{HeldCommand}
+use Rattle.ct_matrix.specs.Queues.{command_of}
+use Rattle.ct_book.specs.declared.event.Event.{Event}
+use Rattle.ct_book.specs.declared.work.Work.TheVariants as work
+use Rattle.ct_book.specs.Journals.{KeptWork, BookState, numbered, is_command, with_reply, reply_of}
+use Rattle.ct_book.specs.Kept.{IsCommandNo, CanBePushed}
+use Rattle.ct_machine.specs.States.{Task, Stage, Waiting, held_of, has_begun}
+use Rattle.ct_lun.specs.declared.slot.Slot.{Slot}
+use Rattle.ct_lun.specs.Desk.{Desk, slot_at}
+use Rattle.ct_lun.specs.States.{command_in, task_in, stage_of}
+use Rattle.ct_lun.specs.Agreement.{SlotAgrees, Agrees}
+use Rattle.ct_lun.specs.Calls.{IsOver, by_end, by_medium}
+use Rattle.ct_lun.proofs.Keeps.{slot_agrees, held_found}
+use Rattle.ct_lun.proofs.Tasks.{begun_stage}
+use Rattle.ct_lun.proofs.Effects.{reply_kept}
+
+pub can_close : (p : BookState) (number : ℕ) (reply : Reply) (e : Event) → IsCommandNo p number → numbered number p.replies ≡ Some None → IsOver number e → CanBePushed (with_reply p number reply) e
+can_close p number reply e command unanswered by_end = (command, rw (reply_kept p number reply unanswered) refl)
+can_close p number reply e command unanswered (by_medium puts) = (command, rw (reply_kept p number reply unanswered) refl)
+
+pub is_command_no : (d : Desk) (p : BookState) (at : ℕ) → Agrees d p → at < length d.slots → IsCommandNo p (slot_at d.slots at).no
+is_command_no d p at a h =
+    subst (λ (o : Option KeptWork). IsSomeAnd o (λ came. is_command came ≡ true)) (sym (slot_agrees d p at a h).command) refl
+
+pub is_held : (d : Desk) (p : BookState) (at : ℕ) → Agrees d p → at < length d.slots → IsSome (command_of (slot_at d.slots at).no d.set.commands)
+is_held d p at a h = rw (held_found d p at a h) refl
+
+pub waits_held : (d : Desk) (p : BookState) (at : ℕ) → Agrees d p → at < length d.slots → (slot_at d.slots at).begun ≡ false → IsSomeAnd (command_of (slot_at d.slots at).no d.set.commands) (λ command. command.held.begun ≡ false)
+waits_held d p at a h waits =
+    subst (λ (o : Option HeldCommand). IsSomeAnd o (λ command. command.held.begun ≡ false)) (sym (held_found d p at a h)) (begun_stage (slot_at d.slots at) ∙ waits)
+
+-- no command clears a nexus yet
+pub clears_none : (disk : Disk) (command : Command) → (execute disk command).cleared ≡ no_nexuses
+unfolding execute
+clears_none disk command = go (refusal_of disk.control (length disk.blocks) command)
+  where
+    by_effect : (decoded : Result Cdb CdbFault) → (effect_of disk command decoded).cleared ≡ no_nexuses
+    by_effect (Ok cdb) = refl
+    by_effect (Err fault) = refl
+
+    go : (refusal : Option Reply) → (executed refusal disk command).cleared ≡ no_nexuses
+    go (Some reply) = refl
+    go None = by_effect (cdb_of command.cdb)
+
+-- an execution that clears what no command does
+pub clears_known : (disk disk' : Disk) (command : Command) (reply : Reply) (cleared : List Bool) → execute disk command ≡ record { disk = disk'; reply = reply; cleared = cleared } → execute disk command ≡ record { disk = disk'; reply = reply; cleared = no_nexuses }
+clears_known disk disk' command reply cleared e =
+    e ∙ ap (λ (set : List Bool). record { disk = disk'; reply = reply; cleared = set }) (sym (ap (λ (x : Execution). x.cleared) e) ∙ clears_none disk command)

@@ -1,0 +1,7 @@
+pub mod Apart
+pub mod Desk
+pub mod States
+pub mod Agreement
+pub mod Rooms
+pub mod Calls
+pub mod Overlaps

@@ -1,0 +1,13 @@
+//! The core of one logical unit: its task set, its control, its medium and the pool of blocks that commands lease.
+#![tactic(auto)]
+
+mod events;
+mod mechanics;
+mod said;
+mod search;
+mod slot;
+mod unit;
+
+pub use said::{Entered, Stepped};
+pub use slot::Slot;
+pub use unit::Lun;

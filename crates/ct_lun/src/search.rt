@@ -1,0 +1,42 @@
+//! Searches in a list of slots.
+
+ghost use Rattle.std.specs.Prelude.{◌≡◌};
+ghost use Rattle.std.specs.List.{list_any};
+ghost use Rattle.ct_lun.specs.Desk.{place_of, waiting_from};
+ghost use Rattle.ct_lun.specs.Overlaps.{is_overlapped_by};
+
+use crate::slot::Slot;
+use ct_word::{CmdNo, Nexus, Tag};
+
+/// Where the slot with a number stands, or the length.
+pub(crate) fn place(slots: &[Slot], no: CmdNo) -> usize
+    ensures { result ≡ place_of no slots.now }
+{
+    for (at, slot) in slots.iter().enumerate() {
+        if slot.no == no {
+            return at;
+        }
+    }
+    slots.len()
+}
+
+/// Where the first slot stands whose command waits, or the length.
+pub(crate) fn first_waiting(slots: &[Slot]) -> usize
+    ensures { result ≡ waiting_from slots.now }
+{
+    for (at, slot) in slots.iter().enumerate() {
+        if !slot.begun {
+            return at;
+        }
+    }
+    slots.len()
+}
+
+/// A command of this nexus and tag is among them.
+pub(crate) fn overlaps(slots: &[Slot], nexus: Nexus, tag: Tag) -> bool
+    ensures { result ≡ list_any (is_overlapped_by nexus tag) slots.now }
+{
+    slots.iter().any(|slot| {
+        slot.nexus.port == nexus.port && slot.nexus.init == nexus.init && slot.tag.0 == tag.0
+    })
+}
