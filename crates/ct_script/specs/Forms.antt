@@ -1,0 +1,84 @@
+-- The forms of a script's lines: what the words of a line say.
+use Rattle.std.specs.Prelude.{ℕ, ◌-◌, ◌^◌, List, [], ◌∷◌, ◌==◌, Bool, false, ◌&&◌, bytes_eq, codes, length, if◌then◌else◌, Option, Some, None, option_map, Result, Ok, Err}
+use Rattle.ct_word.specs.declared.names.Node.TheVariants.{A}
+use Rattle.ct_cdb.specs.declared.op.Cdb.{Cdb}
+use Rattle.ct_cdb.specs.declared.op.CdbFault.{CdbFault}
+use Rattle.ct_cdb.specs.declared.op.Attr2.TheVariants.{Simple}
+use Rattle.ct_cdb.specs.Forms.{cdb_of}
+use Rattle.ct_cdb.specs.Performed.{data_length}
+use Rattle.ct_script.specs.declared.script.Word.{Word}
+use Rattle.ct_script.specs.declared.script.Word.TheVariants.{Lun, Port, Map, Cmd, Step, Drain, Sync}
+use Rattle.ct_script.specs.ByteText.{bytes_of_text, at_most}
+use Rattle.ct_script.specs.Words.{number_in}
+
+-- `lun 0 blocks N`
+abbrev pub lun_of : List (List ℕ) → Option Word
+lun_of (lun ∷ blocks ∷ count ∷ []) =
+    if bytes_eq lun (codes "0") && bytes_eq blocks (codes "blocks")
+    then option_map (λ n. Lun (record { 0 = 0 }) n) (number_in 1 65536 count)
+    else None
+lun_of _ = None
+
+-- `port 0 a`
+abbrev pub port_of : List (List ℕ) → Option Word
+port_of (port ∷ node ∷ []) = if bytes_eq port (codes "0") && bytes_eq node (codes "a") then Some (Port 0 A) else None
+port_of _ = None
+
+-- `map I 0 0 0`
+abbrev pub map_of : List (List ℕ) → Option Word
+map_of (init ∷ port ∷ number ∷ lun ∷ []) =
+    if bytes_eq port (codes "0") && bytes_eq number (codes "0") && bytes_eq lun (codes "0")
+    then option_map (λ i. Map (record { port = 0; init = i }) 0 (record { 0 = 0 })) (number_in 0 15 init)
+    else None
+map_of _ = None
+
+abbrev pub command_of : Option ℕ → Option ℕ → Option (List ℕ) → Option (List ℕ) → Option Word
+command_of (Some init) (Some tag) (Some cdb) (Some out) = Some (Cmd (record { port = 0; init = init }) 0 (record { 0 = tag }) Simple cdb out)
+command_of _ _ _ _ = None
+
+-- DATA may be missing, and there are then no bytes
+abbrev pub data_of : List (List ℕ) → Option (List ℕ)
+data_of [] = Some []
+data_of (text ∷ []) = at_most 131072 (bytes_of_text text)
+data_of _ = None
+
+-- `cmd I 0 0 TAG simple CDB` and `cmd I 0 0 TAG simple CDB DATA`
+abbrev pub cmd_of : List (List ℕ) → Option Word
+cmd_of (init ∷ port ∷ number ∷ tag ∷ attribute ∷ cdb ∷ out) =
+    if bytes_eq port (codes "0") && bytes_eq number (codes "0") && bytes_eq attribute (codes "simple")
+    then command_of (number_in 0 15 init) (number_in 0 (2 ^ 32 - 1) tag) (at_most 32 (bytes_of_text cdb)) (data_of out)
+    else None
+cmd_of _ = None
+
+-- `step 0 NO N`
+abbrev pub step_by : Option ℕ → Option ℕ → Option Word
+step_by (Some number) (Some blocks) = Some (Step (record { 0 = 0 }) number blocks)
+step_by _ _ = None
+
+abbrev pub step_of : List (List ℕ) → Option Word
+step_of (lun ∷ number ∷ blocks ∷ []) =
+    if bytes_eq lun (codes "0") then step_by (number_in 0 (2 ^ 32 - 1) number) (number_in 1 65536 blocks) else None
+step_of _ = None
+
+-- `drain 0`
+abbrev pub drain_of : List (List ℕ) → Option Word
+drain_of (lun ∷ []) = if bytes_eq lun (codes "0") then Some (Drain (record { 0 = 0 })) else None
+drain_of _ = None
+
+-- `sync`
+abbrev pub sync_of : List (List ℕ) → Option Word
+sync_of [] = Some Sync
+sync_of _ = None
+
+-- the first word names the form
+abbrev pub word_of : List (List ℕ) → Option Word
+word_of [] = None
+word_of (name ∷ words) =
+    if bytes_eq name (codes "lun") then lun_of words
+    else if bytes_eq name (codes "port") then port_of words
+    else if bytes_eq name (codes "map") then map_of words
+    else if bytes_eq name (codes "cmd") then cmd_of words
+    else if bytes_eq name (codes "step") then step_of words
+    else if bytes_eq name (codes "drain") then drain_of words
+    else if bytes_eq name (codes "sync") then sync_of words
+    else None

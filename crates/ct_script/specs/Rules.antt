@@ -1,0 +1,110 @@
+-- What a line needs of the lines before it.
+use Rattle.std.specs.Prelude.{◌≡◌, ◌≤◌, ℕ, take, drop, List, ◌==◌, nat_lt, Bool, true, false, ◌&&◌, ◌||◌, not, length, sum_by, count_by, Result, Ok, Err}
+use Rattle.std.specs.List.{list_any, list_all}
+use Rattle.ct_word.specs.declared.names.LunNo.{LunNo}
+use Rattle.ct_word.specs.declared.names.Nexus.{Nexus}
+use Rattle.ct_word.specs.declared.names.Tag.{Tag}
+use Rattle.ct_cdb.specs.declared.op.Cdb.{Cdb}
+use Rattle.ct_cdb.specs.declared.op.CdbFault.{CdbFault}
+use Rattle.ct_cdb.specs.Forms.{cdb_of}
+use Rattle.ct_cdb.specs.Asked.{asked_of}
+use Rattle.ct_script.specs.declared.script.Line.{Line}
+use Rattle.ct_script.specs.declared.script.Word.{Word}
+use Rattle.ct_script.specs.declared.script.Word.TheVariants.{Lun, Port, Map, Cmd, Step, Drain, Sync}
+
+abbrev pub is_same_nexus : Nexus → Nexus → Bool
+is_same_nexus a b = (a.port == b.port) && (a.init == b.init)
+
+abbrev pub word_declares_lun : LunNo → Word → Bool
+word_declares_lun lun (Lun number blocks) = number.0 == lun.0
+word_declares_lun lun _ = false
+
+abbrev pub declares_lun : LunNo → Line → Bool
+declares_lun lun line = word_declares_lun lun line.word
+
+abbrev pub word_declares_port : ℕ → Word → Bool
+word_declares_port port (Port number node) = number == port
+word_declares_port port _ = false
+
+abbrev pub declares_port : ℕ → Line → Bool
+declares_port port line = word_declares_port port line.word
+
+abbrev pub word_maps : Nexus → ℕ → Word → Bool
+word_maps nexus x (Map n number lun) = is_same_nexus n nexus && (number == x)
+word_maps nexus x _ = false
+
+abbrev pub maps : Nexus → ℕ → Line → Bool
+maps nexus x line = word_maps nexus x line.word
+
+abbrev pub word_is_command : Word → Bool
+word_is_command (Cmd n x tag attr cdb out) = true
+word_is_command _ = false
+
+abbrev pub is_command : Line → Bool
+is_command line = word_is_command line.word
+
+-- a line that does something, and sets nothing up
+abbrev pub word_acts : Word → Bool
+word_acts (Lun lun blocks) = false
+word_acts (Port port node) = false
+word_acts (Map n x lun) = false
+word_acts (Cmd n x tag attr cdb out) = true
+word_acts (Step lun number blocks) = true
+word_acts (Drain lun) = true
+word_acts Sync = true
+
+abbrev pub acts : Line → Bool
+acts line = word_acts line.word
+
+-- a name is declared twice, behind a line that acts, or not at all
+abbrev pub is_misnamed_by : Bool → List Line → Word → Bool
+is_misnamed_by acted earlier (Lun lun blocks) = acted || list_any (declares_lun lun) earlier
+is_misnamed_by acted earlier (Port port node) = acted || list_any (declares_port port) earlier
+is_misnamed_by acted earlier (Map n x lun) =
+    acted || not (list_any (declares_port n.port) earlier) || not (list_any (declares_lun lun) earlier) || list_any (maps n x) earlier
+is_misnamed_by acted earlier (Cmd n x tag attr cdb out) = not (list_any (declares_port n.port) earlier) || not (list_any (maps n x) earlier)
+is_misnamed_by acted earlier (Step lun number blocks) = not (list_any (declares_lun lun) earlier)
+is_misnamed_by acted earlier (Drain lun) = not (list_any (declares_lun lun) earlier)
+is_misnamed_by acted earlier Sync = false
+
+abbrev pub is_misnamed : List Line → Word → Bool
+is_misnamed earlier word = is_misnamed_by (list_any acts earlier) earlier word
+
+-- how much DATA a line has, in bytes
+abbrev pub word_data_bytes : Word → ℕ
+word_data_bytes (Cmd n x tag attr cdb out) = length out
+word_data_bytes _ = 0
+
+abbrev pub data_bytes : Line → ℕ
+data_bytes line = word_data_bytes line.word
+
+-- the block operations that a CDB asks for
+abbrev pub cdb_asked : Result Cdb CdbFault → ℕ
+cdb_asked (Ok cdb) = asked_of cdb.op
+cdb_asked (Err fault) = 0
+
+-- the block operations that a line asks for
+abbrev pub word_line_asked : Word → ℕ
+word_line_asked (Cmd n x tag attr cdb out) = cdb_asked (cdb_of cdb)
+word_line_asked _ = 0
+
+abbrev pub line_asked : Line → ℕ
+line_asked line = word_line_asked line.word
+
+-- lines pass a limit: on commands, on DATA of all of them, or on block operations
+abbrev pub is_over : List Line → Bool
+is_over lines = nat_lt 64 (count_by is_command lines) || nat_lt 134217728 (sum_by data_bytes lines) || nat_lt 262144 (sum_by line_asked lines)
+
+-- the first so many lines set up, and the others act
+pub record SetUpFirst (lines : List Line) (settings : ℕ) : Type 0 where
+  pub few : settings ≤ length lines
+  pub quiet : list_any acts (take settings lines) ≡ false
+  pub acting : list_all acts (drop settings lines) ≡ true
+
+-- what lines add up to: those that set up, which come first; commands, bytes of DATA, block operations; no limit is passed
+pub record AddUp (lines : List Line) (settings commands bytes operations : ℕ) : Type 0 where
+  pub in_order : SetUpFirst lines settings
+  pub commands_are : commands ≡ count_by is_command lines
+  pub bytes_are : bytes ≡ sum_by data_bytes lines
+  pub operations_are : operations ≡ sum_by line_asked lines
+  pub within : is_over lines ≡ false

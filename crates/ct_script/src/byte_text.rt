@@ -1,0 +1,99 @@
+//! Byte texts: how a script and a report write bytes.
+
+ghost use Rattle.std.specs.Prelude.{◌≡◌, ◌≤◌, ◌<◌, ◌^◌, ◌∷◌, IfOk, vec_len};
+ghost use Rattle.std.specs.List.{slice_split};
+ghost use Rattle.ct_word.specs.Decimals.{decimal_of};
+ghost use Rattle.ct_script.specs.ByteText.{pairs_of, single, repeated, bytes_of_parts, is_star, piece_of, bytes_of_text, at_most};
+ghost use Rattle.ct_script.specs.Reading.{Extends};
+
+use crate::cuts::cut;
+use ct_word::{Bytes, NoMemory, read_decimal};
+use std::alloc::Global;
+
+/// The bytes that a byte text stands for. None where it is no byte text, or stands for more than `most` bytes.
+pub fn read_bytes(alloc: Global, text: &[u8], most: usize) -> Result<Option<Bytes>, NoMemory>
+    requires { most < 2 ^ 32 }
+    ensures { IfOk result (λ found. found ≡ at_most most (bytes_of_text text.now)) }
+{
+    let mut bytes = Vec::new(alloc);
+    let mut rest = Some(text);
+    while let Some(pieces) = rest {
+        let (piece, others) = cut(pieces, b'.');
+        if !push_piece(&mut bytes, piece, most)? {
+            return Ok(None);
+        }
+        rest = others;
+    }
+    Ok(Some(Bytes::from_vec(bytes)))
+}
+
+// Adds the bytes of a piece. False where it is no piece, or makes the bytes more than `most`.
+fn push_piece(bytes: &mut Vec<u8>, piece: &[u8], most: usize) -> Result<bool, NoMemory>
+    requires small { most < 2 ^ 32 }
+    requires within { vec_len bytes.old ≤ most }
+    ensures { IfOk result (λ ok. Extends most bytes.old.items (piece_of piece.now) ok bytes.new.items) }
+{
+    let (first, rest) = cut(piece, b'*');
+    match rest {
+        None => push_pairs(bytes, first, most),
+        Some(rest) => push_counted(bytes, first, rest, most),
+    }
+}
+
+// Adds the bytes of a pair and what stands behind its star.
+fn push_counted(
+    bytes: &mut Vec<u8>,
+    pair: &[u8],
+    rest: &[u8],
+    most: usize,
+) -> Result<bool, NoMemory>
+    requires small { most < 2 ^ 32 }
+    requires within { vec_len bytes.old ≤ most }
+    ensures { IfOk result (λ ok. Extends most bytes.old.items (bytes_of_parts (pair.now ∷ slice_split is_star rest.now)) ok bytes.new.items) }
+{
+    let (count, others) = cut(rest, b'*');
+    match others {
+        None => push_run(bytes, pair, count, most),
+        Some(_) => Ok(false),
+    }
+}
+
+// Adds the bytes of pairs of digits.
+fn push_pairs(bytes: &mut Vec<u8>, pairs: &[u8], most: usize) -> Result<bool, NoMemory>
+    requires small { most < 2 ^ 32 }
+    requires within { vec_len bytes.old ≤ most }
+    ensures { IfOk result (λ ok. Extends most bytes.old.items (pairs_of pairs.now) ok bytes.new.items) }
+{
+    let start = bytes.len();
+    let count = pairs.len() / 2;
+    if count == 0 || count > most - start {
+        return Ok(false);
+    }
+    bytes.resize(start + count, 0)?;
+    Ok(hex::decode_to_slice(pairs, &mut bytes[start..]).is_ok())
+}
+
+// Adds a byte as often as the count says.
+fn push_run(bytes: &mut Vec<u8>, pair: &[u8], count: &[u8], most: usize) -> Result<bool, NoMemory>
+    requires small { most < 2 ^ 32 }
+    requires within { vec_len bytes.old ≤ most }
+    ensures { IfOk result (λ ok. Extends most bytes.old.items (repeated (single (pairs_of pair.now)) (decimal_of count.now)) ok bytes.new.items) }
+{
+    match (one_byte(pair), read_decimal(count)) {
+        (Some(byte), Some(count)) if count > 0 && count <= (most - bytes.len()) as u64 => {
+            bytes.resize(bytes.len() + count as usize, byte)?;
+            Ok(true)
+        }
+        _ => Ok(false),
+    }
+}
+
+fn one_byte(pair: &[u8]) -> Option<u8>
+    ensures { result ≡ single (pairs_of pair.now) }
+{
+    let mut byte = [0];
+    match hex::decode_to_slice(pair, &mut byte) {
+        Ok(()) => Some(byte[0]),
+        Err(_) => None,
+    }
+}

@@ -1,0 +1,217 @@
+//! The forms of a script's lines: what the words of a line say.
+
+ghost use Rattle.std.specs.Prelude.{◌≡◌, ◌-◌, ◌^◌, IfOk, bytes_eq};
+ghost use Rattle.ct_script.specs.ByteText.{bytes_of_text, at_most};
+ghost use Rattle.ct_script.specs.Words.{number_in};
+ghost use Rattle.ct_script.specs.Forms.{lun_of, port_of, map_of, cmd_of, command_of, data_of, step_of, drain_of, sync_of, word_of};
+
+use crate::byte_text::read_bytes;
+use crate::numbers::number_in;
+use crate::parts::Parts;
+use crate::script::Word;
+use ct_cdb::Attr2;
+use ct_word::{Bytes, LunNo, Nexus, NoMemory, Node, Tag};
+use std::alloc::Global;
+
+/// The most bytes of a CDB.
+const MAX_CDB_BYTES: usize = 32;
+
+/// The most bytes of DATA.
+const MAX_DATA_BYTES: usize = 131_072;
+
+/// What the words of a line say. None where they are in no form.
+pub fn read_word(alloc: Global, mut words: Parts<'_>) -> Result<Option<Word>, NoMemory>
+    ensures { IfOk result (λ word. word ≡ word_of words.entry) }
+{
+    let Some(name) = words.next() else {
+        return Ok(None);
+    };
+    if spells(name, "lun") {
+        Ok(lun_form(words))
+    } else if spells(name, "port") {
+        Ok(port_form(words))
+    } else if spells(name, "map") {
+        Ok(map_form(words))
+    } else if spells(name, "cmd") {
+        cmd_form(alloc, words)
+    } else if spells(name, "step") {
+        Ok(step_form(words))
+    } else if spells(name, "drain") {
+        Ok(drain_form(words))
+    } else if spells(name, "sync") {
+        Ok(sync_form(words))
+    } else {
+        Ok(None)
+    }
+}
+
+// `lun 0 blocks N`
+fn lun_form(mut words: Parts<'_>) -> Option<Word>
+    ensures { result ≡ lun_of words.entry }
+{
+    let lun = words.next()?;
+    let blocks = words.next()?;
+    let count = words.next()?;
+    if !words.is_empty() || !spells(lun, "0") || !spells(blocks, "blocks") {
+        return None;
+    }
+    Some(Word::Lun {
+        lun: LunNo(0),
+        blocks: number_in(1, 65_536, count)?,
+    })
+}
+
+// `port 0 a`
+fn port_form(mut words: Parts<'_>) -> Option<Word>
+    ensures { result ≡ port_of words.entry }
+{
+    let port = words.next()?;
+    let node = words.next()?;
+    if !words.is_empty() || !spells(port, "0") || !spells(node, "a") {
+        return None;
+    }
+    Some(Word::Port {
+        port: 0,
+        node: Node::A,
+    })
+}
+
+// `map I 0 0 0`
+fn map_form(mut words: Parts<'_>) -> Option<Word>
+    ensures { result ≡ map_of words.entry }
+{
+    let init = words.next()?;
+    let port = words.next()?;
+    let number = words.next()?;
+    let lun = words.next()?;
+    if !words.is_empty() || !spells(port, "0") || !spells(number, "0") || !spells(lun, "0") {
+        return None;
+    }
+    let init = number_in(0, 15, init)? as u8;
+    Some(Word::Map {
+        n: Nexus { port: 0, init },
+        x: 0,
+        lun: LunNo(0),
+    })
+}
+
+// `cmd I 0 0 TAG simple CDB`, and a last word DATA
+fn cmd_form(alloc: Global, mut words: Parts<'_>) -> Result<Option<Word>, NoMemory>
+    ensures { IfOk result (λ word. word ≡ cmd_of words.entry) }
+{
+    let Some(init) = words.next() else {
+        return Ok(None);
+    };
+    let Some(port) = words.next() else {
+        return Ok(None);
+    };
+    let Some(number) = words.next() else {
+        return Ok(None);
+    };
+    let Some(tag) = words.next() else {
+        return Ok(None);
+    };
+    let Some(attribute) = words.next() else {
+        return Ok(None);
+    };
+    let Some(cdb) = words.next() else {
+        return Ok(None);
+    };
+    if spells(port, "0") && spells(number, "0") && spells(attribute, "simple") {
+        command(alloc, init, tag, cdb, words)
+    } else {
+        Ok(None)
+    }
+}
+
+fn command(
+    alloc: Global,
+    init: &[u8],
+    tag: &[u8],
+    cdb: &[u8],
+    out: Parts<'_>,
+) -> Result<Option<Word>, NoMemory>
+    ensures { IfOk result (λ word. word ≡ command_of (number_in 0 15 init.now) (number_in 0 (2 ^ 32 - 1) tag.now) (at_most 32 (bytes_of_text cdb.now)) (data_of out.entry)) }
+{
+    let Some(init) = number_in(0, 15, init) else {
+        return Ok(None);
+    };
+    let Some(tag) = number_in(0, u32::MAX, tag) else {
+        return Ok(None);
+    };
+    let Some(cdb) = read_bytes(alloc, cdb, MAX_CDB_BYTES)? else {
+        return Ok(None);
+    };
+    let Some(out) = read_data(alloc, out)? else {
+        return Ok(None);
+    };
+    Ok(Some(Word::Cmd {
+        n: Nexus {
+            port: 0,
+            init: init as u8,
+        },
+        x: 0,
+        tag: Tag(tag),
+        attr: Attr2::Simple,
+        cdb,
+        out,
+    }))
+}
+
+fn read_data(alloc: Global, mut words: Parts<'_>) -> Result<Option<Bytes>, NoMemory>
+    ensures { IfOk result (λ found. found ≡ data_of words.entry) }
+{
+    let Some(text) = words.next() else {
+        return Ok(Some(Bytes::new(alloc)));
+    };
+    if words.is_empty() {
+        read_bytes(alloc, text, MAX_DATA_BYTES)
+    } else {
+        Ok(None)
+    }
+}
+
+// `step 0 NO N`
+fn step_form(mut words: Parts<'_>) -> Option<Word>
+    ensures { result ≡ step_of words.entry }
+{
+    let lun = words.next()?;
+    let number = words.next()?;
+    let blocks = words.next()?;
+    if !words.is_empty() || !spells(lun, "0") {
+        return None;
+    }
+    Some(Word::Step {
+        lun: LunNo(0),
+        no: number_in(0, u32::MAX, number)?,
+        blocks: number_in(1, 65_536, blocks)?,
+    })
+}
+
+// `drain 0`
+fn drain_form(mut words: Parts<'_>) -> Option<Word>
+    ensures { result ≡ drain_of words.entry }
+{
+    let lun = words.next()?;
+    if !words.is_empty() || !spells(lun, "0") {
+        return None;
+    }
+    Some(Word::Drain { lun: LunNo(0) })
+}
+
+// `sync`
+fn sync_form(words: Parts<'_>) -> Option<Word>
+    ensures { result ≡ sync_of words.entry }
+{
+    if words.is_empty() {
+        Some(Word::Sync)
+    } else {
+        None
+    }
+}
+
+fn spells(word: &[u8], text: &str) -> bool
+    ensures { result ≡ bytes_eq word.now text.now }
+{
+    word == text.as_bytes()
+}

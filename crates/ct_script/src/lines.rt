@@ -1,0 +1,164 @@
+//! From a script's bytes to its lines.
+
+ghost use Rattle.std.specs.Prelude.{◌≡◌, ◌≤◌, ◌==◌, ◌++◌, ◌∷◌, [], false, length, if◌then◌else◌, IfOk, OnOk};
+ghost use Rattle.ct_script.specs.Rules.{is_misnamed, is_over};
+ghost use Rattle.ct_script.specs.Scripts.{line_of, script_of, fault_at, Gives, GivesLine};
+
+use crate::forms::read_word;
+use crate::parts::Parts;
+use crate::rules::{acts, data_bytes, is_command, is_misnamed, line_asked};
+use crate::script::{Line, ParseError, Script, ScriptFault, What, Word};
+use ct_word::NoMemory;
+use std::alloc::Global;
+use std::marker::Model;
+
+/// The most lines of a script.
+const MAX_LINES: u32 = 65_536;
+
+/// The most commands of a script.
+const MAX_COMMANDS: u64 = 64;
+
+/// The most bytes of DATA of a script.
+const MAX_DATA_BYTES: u64 = 134_217_728;
+
+/// The most block operations that the commands of a script may ask for.
+const MAX_BLOCK_OPERATIONS: u64 = 262_144;
+
+/// The script that the bytes say, or the first line in fault.
+#[tactic(auto, unfolding(crate::specs::Scripts::script_of))]
+pub fn parse(alloc: Global, bytes: &[u8]) -> Result<Script, ParseError>
+    ensures { Gives result (script_of bytes.now) }
+{
+    let mut draft = Draft::new(alloc);
+    let mut lines = Parts::new(bytes, b'\n');
+    let mut no = 1;
+    while let Some(text) = lines.next() {
+        if lines.is_empty() {
+            return last_line(draft, no, text);
+        }
+        let line = read_line(alloc, &draft, no, text)?;
+        draft.push(line)?;
+        no += 1;
+    }
+    Ok(draft.into_script())
+}
+
+// Behind the last line feed nothing is left.
+fn last_line(draft: Draft, no: u32, text: &[u8]) -> Result<Script, ParseError>
+    ensures { Gives result (if length text.now == 0 then Ok draft else Err (fault_at no What.Form)) }
+{
+    if text.is_empty() {
+        Ok(draft.into_script())
+    } else {
+        Err(fault_at(no, What::Form))
+    }
+}
+
+// The next line, which a line feed ends.
+#[tactic(auto, unfolding(crate::specs::Scripts::line_of))]
+fn read_line(alloc: Global, draft: &Draft, no: u32, text: &[u8]) -> Result<Line, ParseError>
+    ensures line { GivesLine no result (line_of draft.now no text.now) }
+    ensures number { OnOk result (no ≤ 65536) }
+    ensures named { IfOk result (λ line. is_misnamed draft.now line.word ≡ false) }
+    ensures fits { IfOk result (λ line. is_over (draft.now ++ line ∷ []) ≡ false) }
+{
+    let Some(word) = read_word(alloc, Parts::new(text, b' '))? else {
+        return Err(fault_at(no, What::Form));
+    };
+    if draft.is_misnamed(&word) {
+        return Err(fault_at(no, What::Name));
+    }
+    let line = Line { no, word };
+    if no > MAX_LINES || draft.is_over_with(&line) {
+        return Err(fault_at(no, What::Limit));
+    }
+    Ok(line)
+}
+
+fn fault_at(line: u32, what: What) -> ParseError
+    ensures { result ≡ ParseError.Fault (fault_at line what) }
+{
+    ParseError::Fault(ScriptFault { line, what })
+}
+
+/// The lines so far and what they add up to, as contracts see it: the lines.
+#[derive(Drop)]
+struct Draft {
+    lines: Vec<Line>,
+    // How many lines set up; they come first.
+    settings: usize,
+    commands: u64,
+    bytes: u64,
+    operations: u64,
+}
+
+impl Model for Draft {
+    ghost use Rattle.std.specs.Prelude.{List};
+    ghost use Rattle.ct_script.specs.declared.script.Line.{Line};
+
+    ghost Value = { List Line };
+
+    ghost use Rattle.ct_script.specs.Rules.{AddUp};
+
+    ghost view = { λ d. d.lines.items };
+
+    ghost invariant = { λ d. AddUp d.lines.items d.settings d.commands d.bytes d.operations };
+}
+
+impl Draft {
+    fn new(alloc: Global) -> Draft
+        ensures { result ≡ [] }
+    {
+        Draft {
+            lines: Vec::new(alloc),
+            settings: 0,
+            commands: 0,
+            bytes: 0,
+            operations: 0,
+        }
+    }
+
+    #[tactic(auto, using(crate::proofs::Names::named_first))]
+    fn is_misnamed(&self, word: &Word) -> bool
+        ensures { result ≡ is_misnamed self.now word.now }
+    {
+        let lines = self.lines.as_slice();
+        is_misnamed(self.settings < lines.len(), &lines[..self.settings], word)
+    }
+
+    fn is_over_with(&self, line: &Line) -> bool
+        ensures { result ≡ is_over (self.now ++ line.now ∷ []) }
+    {
+        self.commands + u64::from(is_command(line)) > MAX_COMMANDS
+            || self.bytes + data_bytes(line) > MAX_DATA_BYTES
+            || self.operations + u64::from(line_asked(line)) > MAX_BLOCK_OPERATIONS
+    }
+
+    #[tactic(auto, using(crate::proofs::Names::set_up_acts, crate::proofs::Names::set_up_more))]
+    fn push(&mut self, line: Line) -> Result<(), NoMemory>
+        requires named { is_misnamed self.old line.word ≡ false }
+        requires fits { is_over (self.old ++ line ∷ []) ≡ false }
+        ensures { OnOk result (self.new ≡ self.old ++ line ∷ []) }
+    {
+        let settings = if acts(&line) {
+            self.settings
+        } else {
+            self.lines.len() + 1
+        };
+        let commands = self.commands + u64::from(is_command(&line));
+        let bytes = self.bytes + data_bytes(&line);
+        let operations = self.operations + u64::from(line_asked(&line));
+        self.lines.push(line)?;
+        self.settings = settings;
+        self.commands = commands;
+        self.bytes = bytes;
+        self.operations = operations;
+        Ok(())
+    }
+
+    fn into_script(self) -> Script
+        ensures { result ≡ self }
+    {
+        Script::new(self.lines)
+    }
+}

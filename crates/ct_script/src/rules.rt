@@ -1,0 +1,124 @@
+//! What a line needs of the lines before it.
+
+ghost use Rattle.std.specs.Prelude.{◌≡◌, ◌<◌, ◌^◌};
+ghost use Rattle.std.specs.List.{list_any};
+ghost use Rattle.ct_script.specs.Rules.{is_same_nexus, declares_lun, declares_port, maps, is_command, acts, is_misnamed_by, data_bytes, line_asked};
+
+use crate::script::{Line, Word};
+use ct_cdb::{asked, decode};
+use ct_word::{LunNo, Nexus};
+
+/// A line names something that is declared twice, behind a line that acts, or not at all. The earlier lines may be those
+/// that set up alone.
+pub fn is_misnamed(acted: bool, earlier: &[Line], word: &Word) -> bool
+    ensures { result ≡ is_misnamed_by acted earlier.now word.now }
+{
+    match word {
+        Word::Lun { lun, .. } => acted || any_lun(earlier, *lun),
+        Word::Port { port, .. } => acted || any_port(earlier, *port),
+        Word::Map { n, x, lun } => {
+            acted
+                || !any_port(earlier, n.port)
+                || !any_lun(earlier, *lun)
+                || any_map(earlier, *n, *x)
+        }
+        Word::Cmd { n, x, .. } => !any_port(earlier, n.port) || !any_map(earlier, *n, *x),
+        Word::Step { lun, .. } | Word::Drain { lun } => !any_lun(earlier, *lun),
+        Word::Sync => false,
+    }
+}
+
+fn any_lun(lines: &[Line], lun: LunNo) -> bool
+    ensures { result ≡ list_any (declares_lun lun) lines.now }
+{
+    lines.iter().any(|line| declares_lun(line, lun))
+}
+
+fn any_port(lines: &[Line], port: u8) -> bool
+    ensures { result ≡ list_any (declares_port port) lines.now }
+{
+    lines.iter().any(|line| declares_port(line, port))
+}
+
+fn any_map(lines: &[Line], nexus: Nexus, x: u8) -> bool
+    ensures { result ≡ list_any (maps nexus x) lines.now }
+{
+    lines.iter().any(|line| maps(line, nexus, x))
+}
+
+fn declares_lun(line: &Line, lun: LunNo) -> bool
+    ensures { result ≡ declares_lun lun line.now }
+{
+    match &line.word {
+        Word::Lun { lun: declared, .. } => declared.0 == lun.0,
+        _ => false,
+    }
+}
+
+fn declares_port(line: &Line, port: u8) -> bool
+    ensures { result ≡ declares_port port line.now }
+{
+    match &line.word {
+        Word::Port { port: declared, .. } => *declared == port,
+        _ => false,
+    }
+}
+
+fn maps(line: &Line, nexus: Nexus, x: u8) -> bool
+    ensures { result ≡ maps nexus x line.now }
+{
+    match &line.word {
+        Word::Map { n, x: number, .. } => is_same_nexus(*n, nexus) && *number == x,
+        _ => false,
+    }
+}
+
+/// A command arrives with the line.
+pub fn is_command(line: &Line) -> bool
+    ensures { result ≡ is_command line.now }
+{
+    match &line.word {
+        Word::Cmd { .. } => true,
+        _ => false,
+    }
+}
+
+/// A line does something, and sets nothing up.
+pub fn acts(line: &Line) -> bool
+    ensures { result ≡ acts line.now }
+{
+    match &line.word {
+        Word::Lun { .. } | Word::Port { .. } | Word::Map { .. } => false,
+        Word::Cmd { .. } | Word::Step { .. } | Word::Drain { .. } | Word::Sync => true,
+    }
+}
+
+fn is_same_nexus(a: Nexus, b: Nexus) -> bool
+    ensures { result ≡ is_same_nexus a b }
+{
+    a.port == b.port && a.init == b.init
+}
+
+/// How much DATA a line has, in bytes.
+pub fn data_bytes(line: &Line) -> u64
+    ensures data { result ≡ data_bytes line.now }
+    ensures small { result < 2 ^ 63 }
+{
+    match &line.word {
+        Word::Cmd { out, .. } => out.len() as u64,
+        _ => 0,
+    }
+}
+
+/// The block operations that a line asks for.
+pub fn line_asked(line: &Line) -> u32
+    ensures { result ≡ line_asked line.now }
+{
+    match &line.word {
+        Word::Cmd { cdb, .. } => match decode(cdb.as_slice()) {
+            Ok(cdb) => asked(&cdb.op),
+            Err(_) => 0,
+        },
+        _ => 0,
+    }
+}

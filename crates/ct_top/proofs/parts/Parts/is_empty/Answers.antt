@@ -1,5 +1,0 @@
-use Rattle.ct_top.proofs.Cutting.{part_left}
-use Rattle.ct_top.proofs.parts.Parts.is_empty.Goals as goal
-
-pub returns-in_default : goal.returns-in_default
-returns-in_default c = rw (← c.self.view_is) (part_left c.self.inside.at c.self.inside.rest c.in_default.field-0 c.in_default.is)
