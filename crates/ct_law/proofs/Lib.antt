@@ -26,6 +26,7 @@ pub mod Turns
 pub mod Comings
 pub mod Complete
 pub mod Lawful
+pub mod Writes
 pub mod Sends
 pub mod Live
 pub mod Weights

@@ -4,11 +4,16 @@ ghost use Rattle.std.specs.Prelude.{◌≤◌, List, length};
 ghost use Rattle.ct_book.specs.declared.event.Logged.{Logged};
 ghost use Rattle.ct_machine.specs.declared.act.Opening.{Opening};
 ghost use Rattle.ct_machine.specs.Runs.{IsRun};
-ghost use Rattle.ct_machine.specs.Laws.{NeverStops, reserved_events};
+ghost use Rattle.ct_machine.specs.Laws.{NeverStops, ActsWrite, reserved_events};
 
 /// Behind every run with a live command something can be done next.
 pub fn runs_never_stop()
     ensures { (opening : Opening) (journal : List Logged) → IsRun opening journal → NeverStops opening journal }
+{}
+
+/// An act by which something happened, which its answer says, writes an event.
+pub fn acts_write()
+    ensures { (opening : Opening) (journal : List Logged) → ActsWrite opening journal }
 {}
 
 /// All acts together write at most as many events as the room of the opening reserves.
