@@ -40,6 +40,13 @@ impl Ram {
     {
         self.list[lba as usize].bytes()
     }
+
+    /// All blocks, in order.
+    pub fn blocks(&self) -> &[Block]
+        ensures { result.now ≡ self.now }
+    {
+        self.list.as_slice()
+    }
 }
 
 impl Backend for Ram {

@@ -32,6 +32,7 @@ fn swaps_and_gets_at_both_ends(rt: HostRuntime) -> Result<(), Fail> {
         assert_eq!(rt; into, [byte; 512], "at {lba}");
         assert_eq!(rt; *block.bytes(), [0; 512], "at {lba}");
     }
+    assert_eq!(rt; ram.blocks().len(), 3);
     assert!(rt; 3 <= ram.len());
     assert_eq!(rt; *ram.block(0), [7; 512]);
     assert_eq!(rt; *ram.block(1), [0; 512]);

@@ -65,7 +65,6 @@ mod tests {
     #[test]
     fn writes_each_form(rt: HostRuntime) {
         for (sense, descriptor, bytes) in forms() {
-            assert!(rt; sense.key < 16);
             let mut into = [0xee; 20];
             let size = sense_bytes(&sense, descriptor, &mut into);
             assert_eq!(rt; &into[..size], bytes);

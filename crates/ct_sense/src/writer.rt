@@ -1,13 +1,12 @@
 //! From sense data to their bytes. Each form is one function.
 
-ghost use Rattle.std.specs.Prelude.{◌≡◌, ◌<◌, ◌++◌, length, take, drop};
+ghost use Rattle.std.specs.Prelude.{◌≡◌, ◌++◌, length, take, drop};
 ghost use Rattle.ct_sense.specs.Forms.{fixed_bytes, descriptor_bytes, bytes_of_sense};
 
 use crate::sense::Sense;
 
 /// Writes the bytes of sense data, whose number is returned. The bytes behind them stay.
 pub fn sense_bytes(s: &Sense, descriptor: bool, into: &mut [u8; 20]) -> usize
-    requires { s.now.key < 16 }
     ensures size { result ≡ length (bytes_of_sense s.now descriptor) }
     ensures form { take result into.new ≡ bytes_of_sense s.now descriptor }
     ensures rest { drop result into.new ≡ drop result into.old }

@@ -1,21 +1,14 @@
 -- A cut at the first place where a byte stands.
-use Rattle.std.proofs.Common.{not, ◌≡◌, ℕ, ◌+◌, ◌-◌, ◌<◌, ◌≤◌, Bool, true, false, cond, List, [], ◌∷◌, length, take, drop, Some, None, position, refl, sym, ap, ◌∙◌, arith, Option, Bor, ◌==◌, count_by}
+use Rattle.std.proofs.Common.{◌≡◌, ℕ, ◌+◌, ◌-◌, ◌<◌, ◌≤◌, Bool, false, List, [], ◌∷◌, length, take, drop, Some, None, position, sym, ap, ◌∙◌, arith, Option, Bor, ◌==◌, count_by}
 use Rattle.std.proofs.lemmas.Bool.Decides.{nat_tests}
+use Rattle.ct_report.proofs.Places.{some_at, none_at}
 use Rattle.ct_top.specs.Cuts.{parts_of_rest}
 use Rattle.std.specs.List.{slice_split, position_or_len}
 use Rattle.std.proofs.lemmas.List.Splits.{slice_split_first, slice_split_none, length-slice_split}
-use Rattle.std.proofs.lemmas.List.Sums.{fails_before_first, prefix_len-le-length}
+use Rattle.std.proofs.lemmas.List.Sums.{fails_before_first}
 use Rattle.std.proofs.lemmas.List.Elements.{All-from_get_or}
 use Rattle.std.proofs.lemmas.List.{take_rest}
 use Rattle.std.proofs.lemmas.Bool.{ltb-true, ltb-false}
-
-some_at : {A : Type 0} (b : Bool) (x y : A) → cond b (Some x) None ≡ Some y → (b ≡ true) × (x ≡ y)
-some_at true x y h = (refl, cc)
-some_at false x y h = absurd (cc)
-
-none_at : {A : Type 0} (b : Bool) (x : A) → cond b (Some x) None ≡ None → b ≡ false
-none_at true x h = absurd (cc)
-none_at false x h = refl
 
 pub split_at_place : (p : ℕ → Bool) (xs : List ℕ) (n : ℕ) → position p xs ≡ Some n → slice_split p xs ≡ take n xs ∷ slice_split p (take (length xs - (n + 1)) (drop (n + 1) xs))
 split_at_place p xs n h =
@@ -29,14 +22,6 @@ pub split_nowhere : (p : ℕ → Bool) (xs : List ℕ) → position p xs ≡ Non
 split_nowhere p xs h =
     let past : length xs ≤ position_or_len p xs = ltb-false _ _ (none_at _ (position_or_len p xs) h) in
     slice_split_none p xs (All-from_get_or (λ x. p x ≡ false) xs 0 (λ i (in_xs : i < length xs). fails_before_first p xs i 0 (omega arith)))
-
-pub place_first : {X : Type 0} (p : X → Bool) (xs : List X) (n : ℕ) → position p xs ≡ Some n → n ≡ position_or_len p xs
-place_first p xs n h = sym (some_at _ _ _ h).1
-
-pub place_past : {X : Type 0} (p : X → Bool) (xs : List X) → position p xs ≡ None → length xs ≡ position_or_len p xs
-place_past p xs h =
-    let past : length xs ≤ position_or_len p xs = ltb-false _ _ (none_at _ (position_or_len p xs) h) in
-    omega (arith, prefix_len-le-length (λ x. not (p x)) xs)
 
 -- there is a part as long as something is left to be cut, even nothing
 pub part_left : (at : ℕ) (rest : Option (Bor (List ℕ))) (text : Bor (List ℕ)) → rest ≡ Some text → false ≡ (length (parts_of_rest at rest) == 0)

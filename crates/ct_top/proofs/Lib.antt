@@ -1,4 +1,3 @@
 pub mod Cutting
 pub mod Texts
-pub mod Running
 pub mod Splicing

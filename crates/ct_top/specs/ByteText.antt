@@ -1,10 +1,9 @@
--- Byte texts: how a script and a report write bytes.
-use Rattle.std.specs.Prelude.{ℕ, List, [], ◌∷◌, ◌++◌, ◌==◌, Bool, length, replicate, nat_le, nat_eq, if◌then◌else◌, Option, Some, None, decimal}
+-- Byte texts: how a script writes bytes.
+use Rattle.std.specs.Prelude.{ℕ, List, [], ◌∷◌, ◌++◌, ◌==◌, Bool, length, replicate, nat_le, if◌then◌else◌, Option, Some, None}
 use Rattle.std.specs.List.{slice_split}
 use Rattle.std.specs.Result.{result_ok}
-use Rattle.hex.specs.Hex.{decode_of, encode_lower}
+use Rattle.hex.specs.Hex.{decode_of}
 use Rattle.ct_word.specs.Decimals.{decimal_of}
-use Rattle.ct_top.specs.Runs.{Run, runs_of}
 
 abbrev pub is_dot : ℕ → Bool
 is_dot b = b == 46
@@ -54,20 +53,3 @@ bytes_of_text text = bytes_of_pieces (slice_split is_dot text)
 abbrev pub at_most : ℕ → Option (List ℕ) → Option (List ℕ)
 at_most most None = None
 at_most most (Some bytes) = if nat_le (length bytes) most then Some bytes else None
-
--- a run in print: its byte in lower case, and a star and the count where it stands more than once
-abbrev pub run_text : Run ℕ → List ℕ
-run_text run = encode_lower (run.item ∷ []) ++ (if run.count == 1 then [] else 42 ∷ decimal run.count)
-
--- further runs, each behind a dot
-abbrev pub behind_dots : List (Run ℕ) → List ℕ
-behind_dots [] = []
-behind_dots (run ∷ runs) = 46 ∷ run_text run ++ behind_dots runs
-
--- bytes in print: their runs, with dots between them
-abbrev pub text_of_runs : List (Run ℕ) → List ℕ
-text_of_runs [] = []
-text_of_runs (run ∷ runs) = run_text run ++ behind_dots runs
-
-abbrev pub text_of_bytes : List ℕ → List ℕ
-text_of_bytes bytes = text_of_runs (runs_of nat_eq bytes)

@@ -5,7 +5,6 @@ pub mod Words
 pub mod Forms
 pub mod Rules
 pub mod Scripts
-pub mod Runs
 pub mod Disk
 pub mod Report
 pub mod Served

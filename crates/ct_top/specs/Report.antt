@@ -1,6 +1,5 @@
 -- The report of a script: its commands arrive, are executed one after another, and leave a disk.
-use Rattle.std.specs.Prelude.{ℕ, ◌+◌, ◌-◌, List, [], ◌∷◌, ◌++◌, ◌==◌, Bool, codes, decimal, replicate, bytes_eq, if◌then◌else◌, Option, Some, None, Result, Ok, Err}
-use Rattle.std.specs.List.{list_all}
+use Rattle.std.specs.Prelude.{ℕ, ◌+◌, List, [], ◌∷◌, ◌++◌, ◌==◌, codes, decimal, replicate, if◌then◌else◌, Option, Some, None, Result, Ok, Err}
 use Rattle.ct_cdb.specs.declared.op.Op.{Op}
 use Rattle.ct_cdb.specs.declared.op.Cdb.{Cdb}
 use Rattle.ct_cdb.specs.declared.op.CdbFault.{CdbFault}
@@ -13,8 +12,8 @@ use Rattle.ct_top.specs.declared.answer.Answer.{Answer}
 use Rattle.ct_top.specs.declared.answer.Answer.TheVariants.{Good, CheckCondition}
 use Rattle.ct_top.specs.declared.answer.Refusal.{Refusal}
 use Rattle.ct_top.specs.declared.answer.Refusal.TheVariants.{ShortData, OutOfRange}
-use Rattle.ct_top.specs.Runs.{Run, runs_of}
-use Rattle.ct_top.specs.ByteText.{text_of_bytes}
+use Rattle.ct_report.specs.DiskText.{disk_text}
+use Rattle.ct_report.specs.AnswerText.{data_text}
 use Rattle.ct_plan.specs.Effects.{Disk}
 use Rattle.ct_top.specs.Disk.{execute}
 
@@ -65,10 +64,6 @@ abbrev pub moves_text : ℕ → ℕ → List ℕ
 moves_text number count =
     if count == 0 then [] else codes "begun " ++ decimal number ++ codes "\nmoved " ++ decimal number ++ codes " " ++ decimal count ++ codes "\n"
 
-abbrev pub data_text : List ℕ → List ℕ
-data_text [] = []
-data_text (byte ∷ bytes) = codes " data " ++ text_of_bytes (byte ∷ bytes)
-
 -- `ended`, with each status
 abbrev pub refusal_text : ℕ → Refusal → List ℕ
 refusal_text number refusal = codes "ended " ++ decimal number ++ codes " CHECK CONDITION sense " ++ sense_text refusal ++ codes "\n"
@@ -92,22 +87,6 @@ endings_text number disk (command ∷ commands) =
 abbrev pub disk_after : Disk → List Command → Disk
 disk_after disk [] = disk
 disk_after disk (command ∷ commands) = disk_after (execute disk command.op command.out).disk commands
-
-abbrev pub is_zero : List ℕ → Bool
-is_zero block = list_all (λ byte. byte == 0) block
-
--- equal blocks from this one on, unless they are all zeros
-abbrev pub block_run_text : ℕ → Run (List ℕ) → List ℕ
-block_run_text first run =
-    if is_zero run.item then []
-    else codes "disk " ++ decimal first ++ codes " " ++ decimal (first + run.count - 1) ++ codes " " ++ text_of_bytes run.item ++ codes "\n"
-
-abbrev pub block_runs_text : ℕ → List (Run (List ℕ)) → List ℕ
-block_runs_text first [] = []
-block_runs_text first (run ∷ runs) = block_run_text first run ++ block_runs_text (first + run.count) runs
-
-abbrev pub disk_text : Disk → List ℕ
-disk_text disk = block_runs_text 0 (runs_of bytes_eq disk)
 
 -- the blocks of the logical unit that the lines declare, if they declare one
 abbrev pub first_of : Option ℕ → Option ℕ → Option ℕ

@@ -2,7 +2,6 @@
 #![tactic(auto)]
 
 mod answer;
-mod byte_print;
 mod byte_text;
 mod command;
 mod cuts;

@@ -1,17 +1,15 @@
 //! The report of a script: its commands arrive, are executed one after another, and leave a disk.
 
-ghost use Rattle.std.specs.Prelude.{◌≡◌, ◌≤◌, ◌<◌, ◌+◌, ◌^◌, ◌++◌, ◌==◌, not, length, drop, bytes_eq, codes, decimal, position, Some, None, IfOk, IfSome, OnOk, MatchOption};
-ghost use Rattle.std.specs.List.{position_or_len};
+ghost use Rattle.std.specs.Prelude.{◌≡◌, ◌++◌, codes, decimal, Some, None, IfOk, OnOk, MatchOption};
 ghost use Rattle.ct_top.specs.Disk.{execute};
-ghost use Rattle.ct_top.specs.Runs.{runs_of};
-ghost use Rattle.ct_top.specs.Report.{word_command, commands_of, arrival_text, arrivals_text, sense_text, moves_text, refusal_text, good_text, ending_text, endings_text, disk_after, is_zero, block_run_text, block_runs_text, disk_text, declared_blocks, unit_text, report_text};
+ghost use Rattle.ct_top.specs.Report.{word_command, commands_of, arrival_text, arrivals_text, sense_text, moves_text, refusal_text, good_text, ending_text, endings_text, disk_after, declared_blocks, unit_text, report_text};
 
 use crate::answer::{Answer, Refusal};
-use crate::byte_print::push_byte_text;
 use crate::disk::Disk;
 use crate::script::{Line, Script, Word};
 use ct_cdb::{Op, asked, decode};
-use ct_word::{Block, Bytes, NoMemory};
+use ct_report::{push_byte_text, push_disk};
+use ct_word::{Bytes, NoMemory};
 use std::alloc::Global;
 use std::io::Write;
 
@@ -164,76 +162,4 @@ fn push_good(text: &mut Vec<u8>, number: usize, bytes: &Bytes) -> Result<(), NoM
     }
     text.push(b'\n')?;
     Ok(())
-}
-
-fn push_disk(text: &mut Vec<u8>, blocks: &[Block]) -> Result<(), NoMemory>
-    ensures { OnOk result (text.new.items ≡ text.old.items ++ disk_text blocks.now) }
-{
-    let mut first = 0;
-    while first < blocks.len() {
-        first += push_first_blocks(text, first, &blocks[first..])?;
-    }
-    Ok(())
-}
-
-// Adds the first run of equal blocks, and gives their number.
-fn push_first_blocks(text: &mut Vec<u8>, first: usize, blocks: &[Block]) -> Result<usize, NoMemory>
-    requires some { 0 < length blocks.now }
-    requires few { first + length blocks.now < 2 ^ 64 }
-    ensures text { IfOk result (λ count.
-        text.new.items ++ block_runs_text (first + count) (runs_of bytes_eq (drop count blocks.now))
-        ≡ text.old.items ++ block_runs_text first (runs_of bytes_eq blocks.now)) }
-    ensures some { IfOk result (λ count. 0 < count) }
-    ensures within { IfOk result (λ count. count ≤ length blocks.now) }
-{
-    let bytes = blocks[0].bytes();
-    let count = 1 + equal_blocks_ahead(bytes, &blocks[1..]);
-    push_block_run(text, first, bytes, count)?;
-    Ok(count)
-}
-
-// How many blocks are equal to the one before them, up to the first that isn't.
-fn equal_blocks_ahead(first: &[u8; 512], others: &[Block]) -> usize
-    ensures equal { result ≡ position_or_len (λ block. not (bytes_eq block first.now)) others.now }
-    ensures within { result ≤ length others.now }
-{
-    match first_other_block(first, others) {
-        Some(place) => place,
-        None => others.len(),
-    }
-}
-
-fn first_other_block(first: &[u8; 512], others: &[Block]) -> Option<usize>
-    ensures place { result ≡ position (λ block. not (bytes_eq block first.now)) others.now }
-    ensures within { IfSome result (λ place. place < length others.now) }
-{
-    others
-        .iter()
-        .position(|block| block.bytes().as_slice() != first.as_slice())
-}
-
-fn push_block_run(
-    text: &mut Vec<u8>,
-    first: usize,
-    bytes: &[u8],
-    count: usize,
-) -> Result<(), NoMemory>
-    requires some { 0 < count }
-    requires few { first + count < 2 ^ 64 }
-    ensures { OnOk result (text.new.items ≡ text.old.items ++ block_run_text first (record { item = bytes.now; count = count })) }
-{
-    if is_zero(bytes) {
-        return Ok(());
-    }
-    let last = first + count - 1;
-    write!(text, "disk {first} {last} ").map_err(|_| NoMemory)?;
-    push_byte_text(text, bytes)?;
-    text.push(b'\n')?;
-    Ok(())
-}
-
-fn is_zero(bytes: &[u8]) -> bool
-    ensures { result ≡ is_zero bytes.now }
-{
-    bytes.iter().all(|byte| *byte == 0)
 }

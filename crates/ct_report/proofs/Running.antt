@@ -7,9 +7,9 @@ use native.Mathlib.Numerals.{one-add}
 use Rattle.std.specs.List.{position_or_len}
 use Rattle.std.proofs.lemmas.Bool.Decides.{Decides-eqb}
 use Rattle.std.proofs.lemmas.Slice.Eq.{bytes_eq-Decides}
-use Rattle.ct_top.specs.ByteText.{run_text, behind_dots, text_of_runs, text_of_bytes}
-use Rattle.ct_top.specs.Report.{block_run_text, block_runs_text}
-use Rattle.ct_top.specs.Runs.{Run, with_front, runs_of}
+use Rattle.ct_report.specs.ByteText.{run_text, behind_dots, text_of_runs, text_of_bytes}
+use Rattle.ct_report.specs.DiskText.{block_run_text, block_runs_text}
+use Rattle.ct_report.specs.Runs.{Run, with_front, runs_of}
 
 -- a run of so many items
 abbrev run_of : {X : Type 0} → X → ℕ → Run X

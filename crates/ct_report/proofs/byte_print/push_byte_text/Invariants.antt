@@ -1,7 +1,7 @@
 use Rattle.std.proofs.Common.{◌≡◌, ◌++◌, nat_eq, length}
-use Rattle.ct_top.specs.Runs.{runs_of}
-use Rattle.ct_top.specs.ByteText.{behind_dots, text_of_bytes}
-use Rattle.ct_top.proofs.byte_print.push_byte_text.Given as goal
+use Rattle.ct_report.specs.Runs.{runs_of}
+use Rattle.ct_report.specs.ByteText.{behind_dots, text_of_bytes}
+use Rattle.ct_report.proofs.byte_print.push_byte_text.Given as goal
 
 -- the text so far and the runs of the rest are the text of the bytes
 abbrev pub invariant-loop-rest : goal.invariant-loop-rest

@@ -1,7 +1,7 @@
 use Rattle.std.proofs.Common.{◌∙◌, ◌++◌, ◌<◌, length, rules}
-use Rattle.ct_top.specs.ByteText.{text_of_bytes}
-use Rattle.ct_top.proofs.Running.{dotted_step}
-use Rattle.ct_top.proofs.byte_print.push_byte_text.Goals as goal
+use Rattle.ct_report.specs.ByteText.{text_of_bytes}
+use Rattle.ct_report.proofs.Running.{dotted_step}
+use Rattle.ct_report.proofs.byte_print.push_byte_text.Goals as goal
 
 pub loop-rest-preserved : goal.loop-rest-preserved
 loop-rest-preserved c =

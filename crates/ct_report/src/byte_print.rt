@@ -3,8 +3,8 @@
 ghost use Rattle.std.specs.Prelude.{◌≡◌, ◌≤◌, ◌+◌, ◌++◌, ◌==◌, ◌∷◌, [], not, nat_eq, length, position, ◌<◌, IfSome, IfOk, OnOk};
 ghost use Rattle.std.specs.List.{position_or_len};
 ghost use Rattle.hex.specs.Hex.{encode_lower};
-ghost use Rattle.ct_top.specs.Runs.{runs_of};
-ghost use Rattle.ct_top.specs.ByteText.{run_text, behind_dots, text_of_bytes};
+ghost use Rattle.ct_report.specs.Runs.{runs_of};
+ghost use Rattle.ct_report.specs.ByteText.{run_text, behind_dots, text_of_bytes};
 
 use ct_word::NoMemory;
 use itoa::Buffer;
@@ -67,7 +67,8 @@ fn push_run_text(text: &mut Vec<u8>, byte: u8, count: usize) -> Result<(), NoMem
     Ok(())
 }
 
-fn hex_pair(byte: u8) -> [u8; 2]
+/// A byte as two digits.
+pub fn hex_pair(byte: u8) -> [u8; 2]
     ensures { result ≡ encode_lower (byte ∷ []) }
 {
     let mut pair = [0; 2];

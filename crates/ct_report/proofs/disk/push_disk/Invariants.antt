@@ -1,7 +1,7 @@
 use Rattle.std.proofs.Common.{◌≡◌, ◌≤◌, ◌-◌, ◌++◌, drop, length, bytes_eq}
-use Rattle.ct_top.specs.Runs.{runs_of}
-use Rattle.ct_top.specs.Report.{block_runs_text, disk_text}
-use Rattle.ct_top.proofs.report.push_disk.Given as goal
+use Rattle.ct_report.specs.Runs.{runs_of}
+use Rattle.ct_report.specs.DiskText.{block_runs_text, disk_text}
+use Rattle.ct_report.proofs.disk.push_disk.Given as goal
 
 -- the text so far and the runs of the blocks that are left are those of the disk
 abbrev pub invariant-loop-first : goal.invariant-loop-first

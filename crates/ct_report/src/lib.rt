@@ -1,0 +1,12 @@
+//! What one logical unit did, in print: the events of its journal, and the blocks that they left.
+#![tactic(auto)]
+
+mod answer;
+mod byte_print;
+mod disk;
+mod journal;
+mod unit;
+
+pub use byte_print::push_byte_text;
+pub use disk::push_disk;
+pub use unit::push_unit;
