@@ -6,3 +6,4 @@ pub mod Effects
 pub mod Moves
 pub mod Spent
 pub mod Books
+pub mod Acts
