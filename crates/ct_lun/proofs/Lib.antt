@@ -8,3 +8,5 @@ pub mod Spent
 pub mod Books
 pub mod Does
 pub mod Overs
+pub mod Begins
+pub mod Steps

@@ -1,7 +1,8 @@
 //! What is done to a unit.
 
-ghost use Rattle.std.specs.Prelude.{◌≡◌, ◌<◌, ◌≤◌, [], length, true, false};
-ghost use Rattle.ct_machine.specs.Acts.{blocked_by};
+ghost use Rattle.std.specs.Prelude.{◌≡◌, ◌<◌, ◌≤◌, length, true, false, IfSome, IsSomeAnd};
+ghost use Rattle.ct_matrix.specs.Queues.{command_of, blocker_of, next_ready_of, first_begun_of};
+ghost use Rattle.ct_machine.specs.Acts.{first_some};
 ghost use Rattle.ct_lun.specs.Desk.{Desk, slot_at};
 ghost use Rattle.ct_lun.specs.States.{task_in, state_of};
 ghost use Rattle.ct_lun.specs.Agreement.{AgreesWith};
@@ -79,20 +80,18 @@ impl<B: Backend> Lun<B> {
         if self.slot(at).begun {
             return self.move_on(at, blocks, book);
         }
-        if let Some(by) = self.blocker(at, book) {
+        if let Some(by) = self.blocker(at) {
             return Stepped::Blocked(by);
         }
         self.begin(at, blocks, book)
     }
 
     // For which command a waiting one has to wait.
-    fn blocker(&self, at: usize, book: &Book) -> Option<CmdNo>
+    fn blocker(&self, at: usize) -> Option<CmdNo>
         requires within { at < length self.now.slots }
-        requires agrees { AgreesWith self.now book.now }
-        requires waits { (slot_at self.now.slots at).begun ≡ false }
-        ensures { result ≡ blocked_by [] (state_of self.now book.now) (task_in book.now.works (slot_at self.now.slots at)) }
+        requires waits { IsSomeAnd (command_of (slot_at self.now.slots at).no self.now.set.commands) (λ c. c.held.begun ≡ false) }
+        ensures { IfSome (command_of (slot_at self.now.slots at).no self.now.set.commands) (λ c. result ≡ blocker_of self.now.set c) }
     {
-        let _ = book;
         self.queue.blocker(self.slot(at).no)
     }
 
@@ -115,10 +114,19 @@ impl<B: Backend> Lun<B> {
         requires room { 0 < length self.old.slots → 3 ≤ book.old.spare }
         ensures { Does self.old self.new book.old book.new (next_of self.old book.old blocks) (said_next (state_of self.old book.old) result) }
     {
-        let no = match self.queue.next_ready() {
-            Some(no) => no,
-            None => self.queue.first_begun()?,
-        };
-        Some((no, self.step(no, blocks, book)))
+        match self.next_no() {
+            Some(no) => Some((no, self.step(no, blocks, book))),
+            None => None,
+        }
+    }
+
+    // The first command that is ready, or else the first that began.
+    fn next_no(&self) -> Option<CmdNo>
+        ensures { result ≡ first_some (next_ready_of self.now.set) (first_begun_of self.now.set) }
+    {
+        match self.queue.next_ready() {
+            Some(no) => Some(no),
+            None => self.queue.first_begun(),
+        }
     }
 }
