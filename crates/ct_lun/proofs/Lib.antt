@@ -6,4 +6,7 @@ pub mod Effects
 pub mod Moves
 pub mod Spent
 pub mod Books
-pub mod Acts
+pub mod Does
+pub mod Overs
+pub mod Begins
+pub mod Steps

@@ -1,6 +1,7 @@
 //! The core of one logical unit: its task set, its control, its medium and the pool of blocks that commands lease.
 #![tactic(auto)]
 
+mod acts;
 mod events;
 mod mechanics;
 mod said;

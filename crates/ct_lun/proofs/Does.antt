@@ -33,6 +33,7 @@ use Rattle.ct_lun.specs.Desk.{Desk, slot_at, blank, with_control}
 use Rattle.ct_lun.specs.States.{command_in, stage_of, task_in, tasks_in, state_of}
 use Rattle.ct_lun.specs.Agreement.{SlotAgrees, IsLeft, Agrees, AgreesWith}
 use Rattle.ct_lun.specs.Rooms.{room_of}
+use Rattle.ct_lun.specs.Acts.{going}
 use Rattle.ct_lun.specs.Calls.{Goes, Leaves, EndsAtOnce, Wrote, Spends, Does, IsOver, by_end, by_medium, closed_book, moved_book, moved_journal, told, replied}
 use Rattle.ct_lun.proofs.Lists.{slot_read, each_at, each_drop, each_put, remove_set}
 use Rattle.ct_lun.proofs.Keeps.{slot_agrees}
@@ -98,22 +99,16 @@ gone_slot d d' at count out piece h g = ap (λ (slots : List Slot). slot_at slot
 pub gone_within : (d d' : Desk) (at count : ℕ) (out : List ℕ) (piece : Piece) → at < length d.slots → Goes d d' at count out piece → at < length d'.slots
 gone_within d d' at count out piece h g = rw g.slots (omega (arith, length-set d.slots at (record (slot_at d.slots at) { task = g.task })))
 
--- what the machine does of a command that began
-abbrev pub going : Desk → BookState → ℕ → ℕ → Option ℕ → Done
-going d p at count fault =
-    let slot = slot_at d.slots at in
-    moved (task_in p.works slot) (state_of d p) (moving_from (task_in p.works slot) count fault slot.task.done slot.task.body.items (state_of d p))
-
-test_false : (a b : ℕ) → b < a → nat_le a b ≡ false
+pub test_false : (a b : ℕ) → b < a → nat_le a b ≡ false
 test_false a b h = grind (arith, nat_tests)
 
-test_true : (a b : ℕ) → a ≡ b → nat_le a b ≡ true
+pub test_true : (a b : ℕ) → a ≡ b → nat_le a b ≡ true
 test_true a b h = grind (arith, nat_tests)
 
-unequal : (a b : ℕ) → (a == b) ≡ false → a ≤ b → a < b
+pub unequal : (a b : ℕ) → (a == b) ≡ false → a ≤ b → a < b
 unequal a b h k = grind (arith, nat_tests)
 
-equal : (a b : ℕ) → (a == b) ≡ true → a ≡ b
+pub equal : (a b : ℕ) → (a == b) ≡ true → a ≡ b
 equal a b h = grind (arith, nat_tests)
 
 -- the operations that are done are operations of the plan
@@ -178,3 +173,12 @@ part_does d d' p p' at count piece a h begun room g book ended =
     journal
     (ap (moved_answer slot.no (state_of d p)) journal ∙ part_answer slot.no (state_of d p) (moved_journal slot.no piece.moved) quiet)
     (λ f. absurd (false≢true f)) g.later
+
+-- the command at the place is over by an event that names it
+pub gone_end : (d d' : Desk) (at count : ℕ) (out : List ℕ) (piece : Piece) (number : ℕ) → at < length d.slots → Goes d d' at count out piece → number ≡ (slot_at d.slots at).no → IsOver (slot_at d'.slots at).no (event.Ended number)
+gone_end d d' at count out piece number h g same =
+    subst (λ (n : ℕ). IsOver (slot_at d'.slots at).no (event.Ended n)) (ap (λ (s : Slot). s.no) (gone_slot d d' at count out piece h g) ∙ sym same) by_end
+
+pub gone_cut : (d d' : Desk) (at count : ℕ) (out : List ℕ) (piece : Piece) (number puts : ℕ) → at < length d.slots → Goes d d' at count out piece → number ≡ (slot_at d.slots at).no → IsOver (slot_at d'.slots at).no (event.Cut number puts Medium false)
+gone_cut d d' at count out piece number puts h g same =
+    subst (λ (n : ℕ). IsOver (slot_at d'.slots at).no (event.Cut n puts Medium false)) (ap (λ (s : Slot). s.no) (gone_slot d d' at count out piece h g) ∙ sym same) (by_medium puts)
