@@ -160,3 +160,26 @@ begin_does d d1 d' p p1 p' at count step a h waits unrefused some slots faults w
     ∙ answer_same slot.no s (state_of d1 p1) (going d1 p1 at count fault).turn.journal (going d1 p1 at count fault).turn.journal (sym arrivals) refl
     ∙ ap (λ (n : ℕ). moved_answer n (state_of d1 p1) (going d1 p1 at count fault).turn.journal) (sym number)
     ∙ told_before ∙ said_same slot.no (state_of d1 p1) s step arrivals)
+
+-- whether there is an operation
+
+empty_of : {A : Type 0} (xs : List A) → length xs ≡ 0 → xs ≡ []
+empty_of [] e = refl
+empty_of (x ∷ xs) e = absurd (omega (arith, e))
+
+pub unplanned : (d : Desk) (p : BookState) (at : ℕ) → Agrees d p → at < length d.slots → length (slot_at d.slots at).task.plan.operations ≡ 0 → plan_in (length d.blocks) (command_in p.works (slot_at d.slots at).no) ≡ []
+unplanned d p at a h none = sym (slot_agrees d p at a h).operations ∙ empty_of (slot_at d.slots at).task.plan.operations none
+
+pub planned : (d : Desk) (p : BookState) (at : ℕ) → Agrees d p → at < length d.slots → (length (slot_at d.slots at).task.plan.operations ≡ 0 → ⊥) → 0 < length (plan_in (length d.blocks) (command_in p.works (slot_at d.slots at).no))
+planned d p at a h some = subst (λ (plan : List BlockOp). 0 < length plan) (slot_agrees d p at a h).operations (omega (arith, some))
+
+pub begun_agrees : (d d1 : Desk) (p p1 : BookState) (at : ℕ) → AgreesWith d p → at < length d.slots → (slot_at d.slots at).begun ≡ false → (length (slot_at d.slots at).task.plan.operations ≡ 0 → ⊥)
+    → d1.slots ≡ slice_set d.slots at (record (slot_at d.slots at) { begun = true }) → Agrees d1 p1 → AgreesWith d1 p1
+begun_agrees d d1 p p1 at a h waits some slots base =
+    let slot = slot_at d.slots at in
+    let fresh : IsFresh (command_in p.works slot.no).cdb slot = (slot_agrees d p at a.base h).waits waits in
+    let left : slot.task.done < length slot.task.plan.operations = omega (arith, some, fresh.none) in
+    record { base = base; left = rw slots (each_put IsLeft d.slots at (record slot { begun = true }) a.left (λ begun. left)) }
+
+pub begun_slot : (d d1 : Desk) (at : ℕ) → at < length d.slots → d1.slots ≡ slice_set d.slots at (record (slot_at d.slots at) { begun = true }) → slot_at d1.slots at ≡ record (slot_at d.slots at) { begun = true }
+begun_slot d d1 at h slots = ap (λ (xs : List Slot). slot_at xs at) slots ∙ get_or-set_same d.slots at (record (slot_at d.slots at) { begun = true }) blank h

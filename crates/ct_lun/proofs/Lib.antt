@@ -10,3 +10,4 @@ pub mod Does
 pub mod Overs
 pub mod Begins
 pub mod Steps
+pub mod Enters

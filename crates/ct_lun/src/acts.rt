@@ -1,10 +1,11 @@
 //! What is done to a unit.
 
-ghost use Rattle.std.specs.Prelude.{◌≡◌, ◌<◌, ◌≤◌, length, true, false, IfSome, IsSomeAnd};
+ghost use Rattle.std.specs.Prelude.{◌≡◌, ◌<◌, ◌≤◌, length, true, false, None, IfSome, IfNone, IsNone, IsSomeAnd};
 ghost use Rattle.ct_matrix.specs.Queues.{command_of, blocker_of, next_ready_of, first_begun_of};
 ghost use Rattle.ct_machine.specs.Acts.{first_some};
-ghost use Rattle.ct_lun.specs.Desk.{Desk, slot_at};
-ghost use Rattle.ct_lun.specs.States.{task_in, state_of};
+ghost use Rattle.ct_lun.specs.Desk.{Desk, slot_at, slot_of};
+ghost use Rattle.ct_exec.specs.Executions.{refusal_of};
+ghost use Rattle.ct_lun.specs.States.{command_in, state_of};
 ghost use Rattle.ct_lun.specs.Agreement.{AgreesWith};
 ghost use Rattle.ct_lun.specs.Calls.{Does, said, said_next};
 ghost use Rattle.ct_lun.specs.Acts.{going, beginning_by, stepping_by, step_of, next_of};
@@ -58,10 +59,24 @@ impl<B: Backend> Lun<B> {
         ensures { Does self.old self.new book.old book.new (beginning_by self.old book.old at blocks) (said (slot_at self.old.slots at).no (state_of self.old book.old) result) }
     {
         let no = self.slot(at).no;
-        if let Some(refusal) = self.check(command(no, book)) {
-            self.finish(at, Some(refusal), Event::Ended { no }, book);
-            return Stepped::Ended;
+        match self.check(command(no, book)) {
+            Some(refusal) => {
+                self.finish(at, Some(refusal), Event::Ended { no }, book);
+                Stepped::Ended
+            }
+            None => self.begin_unrefused(at, blocks, book),
         }
+    }
+
+    // The same where no check refuses it.
+    fn begin_unrefused(&mut self, at: usize, blocks: u32, book: &mut Book) -> Stepped
+        requires within { at < length self.old.slots }
+        requires agrees { AgreesWith self.old book.old }
+        requires waits { (slot_at self.old.slots at).begun ≡ false }
+        requires unrefused { refusal_of self.old.control (length self.old.blocks) (command_in book.old.works (slot_at self.old.slots at).no) ≡ None }
+        requires room { 3 ≤ book.old.spare }
+        ensures { Does self.old self.new book.old book.new (beginning_by self.old book.old at blocks) (said (slot_at self.old.slots at).no (state_of self.old book.old) result) }
+    {
         if self.slot(at).task.plan.length() == 0 {
             self.end_at_once(at, book);
             return Stepped::Ended;
@@ -101,11 +116,24 @@ impl<B: Backend> Lun<B> {
         requires room { 0 < length self.old.slots → 3 ≤ book.old.spare }
         ensures { Does self.old self.new book.old book.new (step_of self.old book.old no blocks) (said no (state_of self.old book.old) result) }
     {
+        match self.find(no) {
+            Some(at) => self.step_at(at, blocks, book),
+            None => Stepped::Gone,
+        }
+    }
+
+    // Where the command with a number stands.
+    fn find(&self, no: CmdNo) -> Option<usize>
+        ensures within { IfSome result (λ at. at < length self.now.slots) }
+        ensures named { IfSome result (λ at. (slot_at self.now.slots at).no ≡ no) }
+        ensures none { IfNone result (IsNone (slot_of no self.now.slots)) }
+    {
         let at = place(self.slots.as_slice(), no);
         if at == self.slots.len() {
-            return Stepped::Gone;
+            None
+        } else {
+            Some(at)
         }
-        self.step_at(at, blocks, book)
     }
 
     /// A step of the first command that is ready, or else of the first that began; None where the task set is empty.

@@ -2,6 +2,7 @@
 #![tactic(auto)]
 
 mod acts;
+mod entering;
 mod events;
 mod mechanics;
 mod said;
