@@ -6,3 +6,8 @@ pub mod Effects
 pub mod Moves
 pub mod Spent
 pub mod Books
+pub mod Does
+pub mod Overs
+pub mod Begins
+pub mod Steps
+pub mod Enters

@@ -4,4 +4,6 @@ pub mod States
 pub mod Agreement
 pub mod Rooms
 pub mod Calls
+pub mod Acts
 pub mod Overlaps
+pub mod Reached

@@ -1,6 +1,8 @@
 //! The core of one logical unit: its task set, its control, its medium and the pool of blocks that commands lease.
 #![tactic(auto)]
 
+mod acts;
+mod entering;
 mod events;
 mod mechanics;
 mod said;

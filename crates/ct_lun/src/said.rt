@@ -1,3 +1,7 @@
+ghost use Rattle.std.specs.Prelude.{◌≡◌};
+ghost use Rattle.ct_lun.specs.Reached.{reached_by};
+
+use ct_plan::PieceEnd;
 use ct_word::CmdNo;
 
 /// Whether a command entered the task set, or was refused at its arrival.
@@ -18,4 +22,22 @@ pub enum Stepped {
     Blocked(CmdNo),
     /// It isn't in the task set.
     Gone,
+}
+
+/// How far a command came by some operations.
+#[derive(Clone, Copy, Debug, PartialEq, Eq)]
+pub enum Reached {
+    Part,
+    End,
+    Fault,
+}
+
+pub(crate) fn how_far(end: Option<PieceEnd>) -> Reached
+    ensures { result ≡ reached_by end }
+{
+    match end {
+        None => Reached::Part,
+        Some(PieceEnd::All) => Reached::End,
+        Some(PieceEnd::ReadFault(_) | PieceEnd::WriteFault(_)) => Reached::Fault,
+    }
 }

@@ -37,6 +37,6 @@ pub(crate) fn overlaps(slots: &[Slot], nexus: Nexus, tag: Tag) -> bool
     ensures { result ≡ list_any (is_overlapped_by nexus tag) slots.now }
 {
     slots.iter().any(|slot| {
-        slot.nexus.port == nexus.port && slot.nexus.init == nexus.init && slot.tag.0 == tag.0
+        nexus.port == slot.nexus.port && nexus.init == slot.nexus.init && tag.0 == slot.tag.0
     })
 }

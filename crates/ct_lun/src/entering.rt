@@ -1,0 +1,64 @@
+//! How a command enters the task set.
+
+ghost use Rattle.std.specs.Prelude.{◌≡◌, ◌<◌, ◌≤◌, length, true, false, Some, None, IsNone, IfOk, IfErr, OnOk, OnErr};
+ghost use Rattle.ct_pool.specs.Leases.{Takes, leases_out};
+ghost use Rattle.ct_book.specs.Journals.{numbered, with_event, with_reply, without_body};
+ghost use Rattle.ct_book.specs.Kept.{IsCommandNo};
+ghost use Rattle.ct_exec.specs.Refusals.{refused_reply};
+ghost use Rattle.ct_machine.specs.Acts.{entering, turned_cause};
+ghost use Rattle.ct_lun.specs.Desk.{Desk, slot_of};
+ghost use Rattle.ct_lun.specs.Overlaps.{cause_by};
+ghost use Rattle.ct_lun.specs.States.{command_in, state_of};
+ghost use Rattle.ct_lun.specs.Agreement.{AgreesWith};
+ghost use Rattle.ct_lun.specs.Calls.{Wrote, entered_as};
+
+use crate::mechanics::{command, held};
+use crate::said::Entered;
+use crate::search::overlaps;
+use crate::slot::Slot;
+use crate::unit::Lun;
+use ct_book::{Book, Event};
+use ct_exec::{Refusal, check_condition, plan};
+use ct_matrix::Waits;
+use ct_medium::Backend;
+use ct_plan::Task;
+use ct_pool::Lease;
+use ct_sense::{Status, key};
+use ct_word::{CmdNo, Nexus, Tag};
+
+impl<B: Backend> Lun<B> {
+    // A lease for a command that may enter, or why it is refused.
+    fn admit(&mut self, nexus: Nexus, tag: Tag, need: u32) -> Result<Lease, Refusal>
+        requires out { leases_out self.old.pool ≡ length self.old.set.commands }
+        requires contexts { self.old.pool.contexts ≡ self.old.set.depth }
+        ensures free { OnOk result (cause_by self.old nexus tag need ≡ None) }
+        ensures takes { IfOk result (Takes self.old.pool self.new.pool need) }
+        ensures after { OnOk result (self.new ≡ record self.old { pool = self.new.pool }) }
+        ensures cause { IfErr result (λ refusal. cause_by self.old nexus tag need ≡ Some (refused_reply refusal)) }
+        ensures unchanged { OnErr result (self.new ≡ self.old) }
+    {
+        if overlaps(self.slots.as_slice(), nexus, tag) {
+            return Err(check_condition(&self.control, key::ABORTED_COMMAND, 0x4e, 0, None));
+        }
+        if self.queue.is_full() {
+            return Err(Refusal::of_status(Status::TaskSetFull));
+        }
+        match self.pool.take(need) {
+            Some(lease) => Ok(lease),
+            None => Err(Refusal::of_status(Status::Busy)),
+        }
+    }
+}
+
+// Refuses a command at its arrival.
+fn turn_away(no: CmdNo, refusal: Refusal, book: &mut Book)
+    requires command { IsCommandNo book.old no }
+    requires unanswered { numbered no book.old.replies ≡ Some None }
+    requires untaken { numbered no book.old.untaken ≡ Some true }
+    requires room { 0 < book.old.spare }
+    ensures { book.new ≡ with_event (with_reply (without_body book.old no) no (refused_reply refusal)) (Event.Turned no) }
+{
+    let body = book.take_body(no).into_empty();
+    book.answer(no, refusal.into_reply(body));
+    book.push(Event::Turned { no });
+}
