@@ -52,3 +52,8 @@ pub numbered-apart : {X : Type 0} (number : ℕ) (xs : List X) (other : ℕ) (y 
 numbered-apart zero xs other y given h = refl
 numbered-apart (suc before) xs zero y given h = absurd (omega arith)
 numbered-apart (suc before) xs (suc other) y given h = rw sub-one (get-apart xs other y before (λ e. h (ap suc e)))
+
+-- an item with a number stands at the place below it
+pub numbered-place : {X : Type 0} (number : ℕ) (xs : List X) (x : X) → numbered number xs ≡ Some x → (number ≡ suc (number - 1)) × (slice_get xs (number - 1) ≡ Some x) × (number - 1 < length xs)
+numbered-place zero xs x h = absurd cc
+numbered-place (suc before) xs x h = (omega arith, rw sub-one h, omega (arith, slice_get_within xs before x h))

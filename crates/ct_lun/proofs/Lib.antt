@@ -10,4 +10,3 @@ pub mod Does
 pub mod Overs
 pub mod Begins
 pub mod Steps
-pub mod Enters

@@ -1,6 +1,7 @@
 -- What a line needs of the lines before it.
 use Rattle.std.specs.Prelude.{◌≡◌, ◌≤◌, ℕ, take, drop, List, ◌==◌, nat_lt, Bool, true, false, ◌&&◌, ◌||◌, not, length, sum_by, count_by, Result, Ok, Err}
-use Rattle.std.specs.List.{list_any, list_all}
+use Rattle.std.specs.List.{list_any, list_all, All}
+use Rattle.ct_word.specs.Nexuses.{IsNexus}
 use Rattle.ct_word.specs.declared.names.LunNo.{LunNo}
 use Rattle.ct_word.specs.declared.names.Nexus.{Nexus}
 use Rattle.ct_word.specs.declared.names.Tag.{Tag}
@@ -95,6 +96,19 @@ line_asked line = word_line_asked line.word
 abbrev pub is_over : List Line → Bool
 is_over lines = nat_lt 64 (count_by is_command lines) || nat_lt 134217728 (sum_by data_bytes lines) || nat_lt 262144 (sum_by line_asked lines)
 
+-- a command comes from a nexus of the profile
+abbrev pub HasNexus : Word → Type 0
+HasNexus (Cmd n x tag attr cdb out) = IsNexus n
+HasNexus _ = Unit {0}
+
+abbrev pub HaveNexuses : List Line → Type 0
+HaveNexuses lines = All (λ line. HasNexus line.word) lines
+
+-- what holds of the lines of a script
+pub record IsWithin (lines : List Line) : Type 0 where
+  pub limits : is_over lines ≡ false
+  pub nexuses : HaveNexuses lines
+
 -- the first so many lines set up, and the others act
 pub record SetUpFirst (lines : List Line) (settings : ℕ) : Type 0 where
   pub few : settings ≤ length lines
@@ -107,4 +121,4 @@ pub record AddUp (lines : List Line) (settings commands bytes operations : ℕ) 
   pub commands_are : commands ≡ count_by is_command lines
   pub bytes_are : bytes ≡ sum_by data_bytes lines
   pub operations_are : operations ≡ sum_by line_asked lines
-  pub within : is_over lines ≡ false
+  pub within : IsWithin lines

@@ -1,6 +1,7 @@
 //! A script, line by line.
 
 ghost use Rattle.std.specs.Prelude.{◌≡◌};
+ghost use Rattle.ct_script.specs.Rules.{IsWithin};
 
 use ct_cdb::Attr2;
 use ct_word::{Bytes, LunNo, Nexus, NoMemory, Node, Tag};
@@ -67,14 +68,34 @@ impl Model for Script {
 
     ghost Value = { List Line };
 
+    ghost use Rattle.ct_script.specs.Rules.{IsWithin};
+
     ghost view = { λ s. s.lines.items };
+
+    ghost invariant = { λ s. IsWithin s.lines.items };
 }
 
 impl Script {
-    pub fn new(lines: Vec<Line>) -> Script
+    pub(crate) fn new(lines: Vec<Line>) -> Script
+        requires { IsWithin lines.items }
         ensures { result ≡ lines.items }
     {
         Script { lines }
+    }
+
+    /// A script passes no limit, and its commands come from nexuses of the profile.
+    pub fn is_within(&self)
+        ensures { IsWithin self.now }
+    {
+        let _ = &self.lines;
+    }
+
+    /// The lines, taken out.
+    pub fn into_lines(self) -> Vec<Line>
+        ensures lines { result.items ≡ self }
+        ensures within { IsWithin result.items }
+    {
+        self.lines
     }
 
     pub fn lines(&self) -> &[Line]

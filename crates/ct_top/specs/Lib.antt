@@ -1,11 +1,5 @@
-pub mod Cuts
-pub mod ByteText
-pub mod Reading
-pub mod Words
-pub mod Forms
-pub mod Rules
-pub mod Scripts
-pub mod Disk
+pub mod Commands
+pub mod Played
 pub mod Report
 pub mod Served
 pub mod Exits

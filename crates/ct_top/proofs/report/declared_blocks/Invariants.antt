@@ -1,6 +1,0 @@
-use Rattle.std.proofs.Common.{◌≡◌, drop}
-use Rattle.ct_top.specs.Report.{declared_blocks}
-use Rattle.ct_top.proofs.report.declared_blocks.Given as goal
-
-abbrev pub invariant-loop-line : goal.invariant-loop-line
-invariant-loop-line l = declared_blocks (drop l.line-index l.lines) ≡ declared_blocks l.lines

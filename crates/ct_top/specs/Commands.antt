@@ -1,0 +1,45 @@
+-- What the lines of a script bring to the logical unit that they declare, and with what it is opened.
+use Rattle.std.specs.Prelude.{ℕ, List, [], ◌∷◌, length, sum_by, count_by, Option, Some, None}
+use Rattle.ct_word.specs.declared.names.Ha.TheVariants as ha
+use Rattle.ct_word.specs.declared.names.Room.{Room}
+use Rattle.ct_book.specs.declared.work.Command.{Command}
+use Rattle.ct_exec.specs.Executions.{plan_in}
+use Rattle.ct_machine.specs.declared.act.Opening.{Opening}
+use Rattle.ct_script.specs.declared.script.Line.{Line}
+use Rattle.ct_script.specs.declared.script.Word.{Word}
+use Rattle.ct_script.specs.declared.script.Word.TheVariants.{Lun, Cmd}
+use Rattle.ct_script.specs.Rules.{is_command}
+
+-- the command that a line sends; its nexus sees the unit alone, under the number 0
+abbrev pub command_in : ℕ → Word → Option Command
+command_in line (Cmd n x tag attr cdb out) = Some (record { line = line; nexus = n; visible = 1; tag = tag; attr = attr; cdb = cdb; out = out })
+command_in line _ = None
+
+-- how many block operations it plans on a disk of so many blocks
+abbrev pub pieces_by : ℕ → Option Command → ℕ
+pieces_by blocks None = 0
+pieces_by blocks (Some command) = length (plan_in blocks command)
+
+abbrev pub pieces_in : ℕ → Line → ℕ
+pieces_in blocks line = pieces_by blocks (command_in line.no line.word)
+
+-- exactly the room that the commands of these lines take
+abbrev pub room_of : ℕ → List Line → Room
+room_of blocks lines = record { commands = count_by is_command lines; functions = 0; pieces = sum_by (pieces_in blocks) lines }
+
+-- a unit of one node, with 64 commands at most and 16,384 blocks for what they need meanwhile
+abbrev pub opening_of : ℕ → List Line → Opening
+opening_of blocks lines = record { ha = ha.None; lun = record { 0 = 0 }; blocks = blocks; depth = 64; pool = 16384; room = room_of blocks lines }
+
+-- the blocks of the unit that the lines declare, if they declare one
+abbrev pub first_of : Option ℕ → Option ℕ → Option ℕ
+first_of (Some blocks) others = Some blocks
+first_of None others = others
+
+abbrev pub word_blocks : Word → Option ℕ
+word_blocks (Lun lun blocks) = Some blocks
+word_blocks _ = None
+
+abbrev pub declared_blocks : List Line → Option ℕ
+declared_blocks [] = None
+declared_blocks (line ∷ lines) = first_of (word_blocks line.word) (declared_blocks lines)
