@@ -160,7 +160,7 @@ entering_one None number s = refl
 entering_one (Some reply) number s = refl
 
 -- there is room for a command and its operations
-room_parts : (p : BookState) (command : Command) (pieces : ℕ) → has_room p (work.Cmd command) pieces ≡ true → (0 < p.commands) × (pieces ≤ p.pieces)
+pub room_parts : (p : BookState) (command : Command) (pieces : ℕ) → has_room p (work.Cmd command) pieces ≡ true → (0 < p.commands) × (pieces ≤ p.pieces)
 room_parts p command pieces h = go (nat_lt 0 p.commands) (nat_le pieces p.pieces) refl refl h
   where
     go : (some enough : Bool) → nat_lt 0 p.commands ≡ some → nat_le pieces p.pieces ≡ enough → (some && enough) ≡ true → (0 < p.commands) × (pieces ≤ p.pieces)
