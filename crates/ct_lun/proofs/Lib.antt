@@ -10,3 +10,5 @@ pub mod Does
 pub mod Overs
 pub mod Begins
 pub mod Steps
+pub mod Enters
+pub mod Arrivals

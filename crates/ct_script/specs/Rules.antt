@@ -96,18 +96,20 @@ line_asked line = word_line_asked line.word
 abbrev pub is_over : List Line → Bool
 is_over lines = nat_lt 64 (count_by is_command lines) || nat_lt 134217728 (sum_by data_bytes lines) || nat_lt 262144 (sum_by line_asked lines)
 
--- a command comes from a nexus of the profile
-abbrev pub HasNexus : Word → Type 0
-HasNexus (Cmd n x tag attr cdb out) = IsNexus n
-HasNexus _ = Unit {0}
+-- numbers are in the ranges of their places: the blocks of a unit, a command's nexus, the block operations of a step
+abbrev pub IsInRange : Word → Type 0
+IsInRange (Lun lun blocks) = (1 ≤ blocks) × (blocks ≤ 65536)
+IsInRange (Cmd n x tag attr cdb out) = IsNexus n
+IsInRange (Step lun number blocks) = 1 ≤ blocks
+IsInRange _ = Unit {0}
 
-abbrev pub HaveNexuses : List Line → Type 0
-HaveNexuses lines = All (λ line. HasNexus line.word) lines
+abbrev pub AreInRange : List Line → Type 0
+AreInRange lines = All (λ line. IsInRange line.word) lines
 
 -- what holds of the lines of a script
 pub record IsWithin (lines : List Line) : Type 0 where
   pub limits : is_over lines ≡ false
-  pub nexuses : HaveNexuses lines
+  pub in_range : AreInRange lines
 
 -- the first so many lines set up, and the others act
 pub record SetUpFirst (lines : List Line) (settings : ℕ) : Type 0 where

@@ -1,7 +1,7 @@
 //! The forms of a script's lines: what the words of a line say.
 
 ghost use Rattle.std.specs.Prelude.{◌≡◌, ◌-◌, ◌^◌, IfOk, IfSome, bytes_eq};
-ghost use Rattle.ct_script.specs.Rules.{HasNexus};
+ghost use Rattle.ct_script.specs.Rules.{IsInRange};
 ghost use Rattle.ct_script.specs.ByteText.{bytes_of_text, at_most};
 ghost use Rattle.ct_script.specs.Words.{number_in};
 ghost use Rattle.ct_script.specs.Forms.{lun_of, port_of, map_of, cmd_of, command_of, data_of, step_of, drain_of, sync_of, word_of};
@@ -23,7 +23,7 @@ const MAX_DATA_BYTES: usize = 131_072;
 /// What the words of a line say. None where they are in no form.
 pub fn read_word(alloc: Global, mut words: Parts<'_>) -> Result<Option<Word>, NoMemory>
     ensures word { IfOk result (λ word. word ≡ word_of words.entry) }
-    ensures nexus { IfOk result (λ word. IfSome word HasNexus) }
+    ensures in_range { IfOk result (λ word. IfSome word IsInRange) }
 {
     let Some(name) = words.next() else {
         return Ok(None);
@@ -50,7 +50,7 @@ pub fn read_word(alloc: Global, mut words: Parts<'_>) -> Result<Option<Word>, No
 // `lun 0 blocks N`
 fn lun_form(mut words: Parts<'_>) -> Option<Word>
     ensures word { result ≡ lun_of words.entry }
-    ensures nexus { IfSome result HasNexus }
+    ensures in_range { IfSome result IsInRange }
 {
     let lun = words.next()?;
     let blocks = words.next()?;
@@ -67,7 +67,7 @@ fn lun_form(mut words: Parts<'_>) -> Option<Word>
 // `port 0 a`
 fn port_form(mut words: Parts<'_>) -> Option<Word>
     ensures word { result ≡ port_of words.entry }
-    ensures nexus { IfSome result HasNexus }
+    ensures in_range { IfSome result IsInRange }
 {
     let port = words.next()?;
     let node = words.next()?;
@@ -83,7 +83,7 @@ fn port_form(mut words: Parts<'_>) -> Option<Word>
 // `map I 0 0 0`
 fn map_form(mut words: Parts<'_>) -> Option<Word>
     ensures word { result ≡ map_of words.entry }
-    ensures nexus { IfSome result HasNexus }
+    ensures in_range { IfSome result IsInRange }
 {
     let init = words.next()?;
     let port = words.next()?;
@@ -103,7 +103,7 @@ fn map_form(mut words: Parts<'_>) -> Option<Word>
 // `cmd I 0 0 TAG simple CDB`, and a last word DATA
 fn cmd_form(alloc: Global, mut words: Parts<'_>) -> Result<Option<Word>, NoMemory>
     ensures word { IfOk result (λ word. word ≡ cmd_of words.entry) }
-    ensures nexus { IfOk result (λ word. IfSome word HasNexus) }
+    ensures in_range { IfOk result (λ word. IfSome word IsInRange) }
 {
     let Some(init) = words.next() else {
         return Ok(None);
@@ -137,7 +137,7 @@ fn command(
     cdb: &[u8],
     out: Parts<'_>,
 ) -> Result<Option<Word>, NoMemory>
-    ensures nexus { IfOk result (λ word. IfSome word HasNexus) }
+    ensures in_range { IfOk result (λ word. IfSome word IsInRange) }
     ensures word { IfOk result (λ word. word ≡ command_of (number_in 0 15 init.now) (number_in 0 (2 ^ 32 - 1) tag.now) (at_most 32 (bytes_of_text cdb.now)) (data_of out.entry)) }
 {
     let Some(init) = number_in(0, 15, init) else {
@@ -181,7 +181,7 @@ fn read_data(alloc: Global, mut words: Parts<'_>) -> Result<Option<Bytes>, NoMem
 // `step 0 NO N`
 fn step_form(mut words: Parts<'_>) -> Option<Word>
     ensures word { result ≡ step_of words.entry }
-    ensures nexus { IfSome result HasNexus }
+    ensures in_range { IfSome result IsInRange }
 {
     let lun = words.next()?;
     let number = words.next()?;
@@ -199,7 +199,7 @@ fn step_form(mut words: Parts<'_>) -> Option<Word>
 // `drain 0`
 fn drain_form(mut words: Parts<'_>) -> Option<Word>
     ensures word { result ≡ drain_of words.entry }
-    ensures nexus { IfSome result HasNexus }
+    ensures in_range { IfSome result IsInRange }
 {
     let lun = words.next()?;
     if !words.is_empty() || !spells(lun, "0") {
@@ -211,7 +211,7 @@ fn drain_form(mut words: Parts<'_>) -> Option<Word>
 // `sync`
 fn sync_form(words: Parts<'_>) -> Option<Word>
     ensures word { result ≡ sync_of words.entry }
-    ensures nexus { IfSome result HasNexus }
+    ensures in_range { IfSome result IsInRange }
 {
     if words.is_empty() {
         Some(Word::Sync)

@@ -1,7 +1,7 @@
 //! From a script's bytes to its lines.
 
 ghost use Rattle.std.specs.Prelude.{◌≡◌, ◌≤◌, ◌==◌, ◌++◌, ◌∷◌, [], false, length, if◌then◌else◌, IfOk, OnOk};
-ghost use Rattle.ct_script.specs.Rules.{HasNexus, is_misnamed, is_over};
+ghost use Rattle.ct_script.specs.Rules.{IsInRange, is_misnamed, is_over};
 ghost use Rattle.ct_script.specs.Scripts.{line_of, script_of, fault_at, Gives, GivesLine};
 
 use crate::forms::read_word;
@@ -60,7 +60,7 @@ fn read_line(alloc: Global, draft: &Draft, no: u32, text: &[u8]) -> Result<Line,
     ensures line { GivesLine no result (line_of draft.now no text.now) }
     ensures number { OnOk result (no ≤ 65536) }
     ensures named { IfOk result (λ line. is_misnamed draft.now line.word ≡ false) }
-    ensures nexus { IfOk result (λ line. HasNexus line.word) }
+    ensures in_range { IfOk result (λ line. IsInRange line.word) }
     ensures fits { IfOk result (λ line. is_over (draft.now ++ line ∷ []) ≡ false) }
 {
     let Some(word) = read_word(alloc, Parts::new(text, b' '))? else {
@@ -138,7 +138,7 @@ impl Draft {
     #[tactic(auto, using(crate::proofs::Names::set_up_acts, crate::proofs::Names::set_up_more))]
     fn push(&mut self, line: Line) -> Result<(), NoMemory>
         requires named { is_misnamed self.old line.word ≡ false }
-        requires nexus { HasNexus line.word }
+        requires in_range { IsInRange line.word }
         requires fits { is_over (self.old ++ line ∷ []) ≡ false }
         ensures { OnOk result (self.new ≡ self.old ++ line ∷ []) }
     {

@@ -4,10 +4,10 @@ use Rattle.ct_io.specs.declared.whole.TakeError.{TakeError}
 use Rattle.ct_io.specs.declared.whole.TakeError.TheVariants as takes
 use Rattle.ct_io.specs.Causes.{Rose}
 use Rattle.ct_io.specs.Streams.{IsLongerThan}
-use Rattle.ct_top.specs.declared.script.ParseError.{ParseError}
-use Rattle.ct_top.specs.declared.script.ParseError.TheVariants as parses
+use Rattle.ct_script.specs.declared.script.ParseError.{ParseError}
+use Rattle.ct_script.specs.declared.script.ParseError.TheVariants as parses
 use Rattle.ct_top.specs.Served.{WasRead, most_bytes}
-use Rattle.ct_top.specs.declared.script.ScriptFault.{ScriptFault}
+use Rattle.ct_script.specs.declared.script.ScriptFault.{ScriptFault}
 use Rattle.ct_top.specs.declared.served.Exit.{Exit}
 use Rattle.ct_top.specs.declared.served.Exit.TheVariants as exits
 

@@ -1,5 +1,5 @@
 -- What `play` does: the acts that the lines of a script name, in order, and all that can still be done at the end.
-use Rattle.std.specs.Prelude.{◌≡◌, ◌≢◌, ℕ, List, [], ◌∷◌, ◌++◌, Option, Some, None}
+use Rattle.std.specs.Prelude.{◌≡◌, ◌<◌, ℕ, IsSome, List, [], ◌∷◌, ◌++◌, Option, Some, None}
 use Rattle.ct_word.specs.declared.names.Node.TheVariants.{A}
 use Rattle.ct_book.specs.declared.work.Command.{Command}
 use Rattle.ct_book.specs.declared.work.Work.TheVariants as work
@@ -14,6 +14,10 @@ use Rattle.ct_script.specs.declared.script.Line.{Line}
 use Rattle.ct_script.specs.declared.script.Word.{Word}
 use Rattle.ct_script.specs.declared.script.Word.TheVariants.{Lun, Port, Map, Cmd, Step, Drain, Sync}
 use Rattle.ct_top.specs.Commands.{command_in}
+
+-- a medium fails only where its count of faults rises from this to that
+abbrev pub MayFail : ℕ → ℕ → Option ℕ → Type 0
+MayFail before after fault = IsSome fault → before < after
 
 -- the machine did an act behind a journal, with one of the faults that the medium may have
 pub record Acted (o : Opening) (may : Option ℕ → Type 0) (done : Act) (before after : List Logged) : Type 0 where

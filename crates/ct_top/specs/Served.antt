@@ -3,11 +3,17 @@ use Rattle.std.specs.Prelude.{◌≡◌, ℕ, ◌<◌, ◌≤◌, List, [], ◌�
 use Rattle.std.specs.Io.KnownBytes.{Appends}
 use Rattle.ct_io.specs.Causes.{Rose}
 use Rattle.ct_io.specs.Streams.{GivesAll}
+use Rattle.ct_machine.specs.declared.act.Opening.{Opening}
+use Rattle.ct_machine.specs.Runs.{replay, IsRun}
+use Rattle.ct_machine.specs.Laws.{IsLegal, IsLawful}
+use Rattle.ct_script.specs.declared.script.Line.{Line}
+use Rattle.ct_script.specs.declared.script.ScriptFault.{ScriptFault}
+use Rattle.ct_script.specs.Scripts.{script_of}
 use Rattle.ct_top.specs.declared.command.Command.{Command}
 use Rattle.ct_top.specs.declared.command.Command.TheVariants.{Play}
-use Rattle.ct_top.specs.declared.script.Line.{Line}
-use Rattle.ct_top.specs.declared.script.ScriptFault.{ScriptFault}
-use Rattle.ct_top.specs.Scripts.{script_of}
+use Rattle.ct_top.specs.declared.report.UnitEnd.{UnitEnd}
+use Rattle.ct_top.specs.Commands.{declared_blocks, opening_of}
+use Rattle.ct_top.specs.Played.{IsPlayed}
 use Rattle.ct_top.specs.Report.{report_text}
 
 -- the command that words ask for, if they are a written one
@@ -26,19 +32,44 @@ pub record WasRead (old new : Option (List ℕ)) (says : Result (List Line) Scri
   pub within : length bytes ≤ most_bytes
   pub meaning : script_of bytes ≡ says
 
--- a script was read, and its whole report was written
-pub record IsReported (left_old left_new held_old held_new : Option (List ℕ)) (sent : ℕ) : Type 0 where
-  pub lines : List Line
-  pub script : WasRead left_old left_new (Ok lines)
-  pub written : Appends held_old held_new (report_text lines)
-  pub whole : sent ≡ length (report_text lines)
+-- no operation fails on a disk in memory
+abbrev pub NoFault : Option ℕ → Type 0
+NoFault fault = fault ≡ None
 
--- a script was read, and its report was written up to some byte
-pub record IsCutShort (left_old left_new held_old held_new : Option (List ℕ)) (sent : ℕ) : Type 0 where
+-- a unit with so many blocks was played: its journal is what the machine writes for the acts of the lines, a run, lawful and
+-- legal, with nothing live at its end; its disk has the blocks to which the journal leads
+pub record IsEnd (blocks : ℕ) (lines : List Line) (end : UnitEnd) : Type 0 where
+  pub lun : end.lun ≡ record { 0 = 0 }
+  pub played : IsPlayed (opening_of blocks lines) NoFault lines end.book.journal
+  pub run : IsRun (opening_of blocks lines) end.book.journal
+  pub lawful : IsLawful (opening_of blocks lines) end.book.journal
+  pub legal : IsLegal (opening_of blocks lines) end.book.journal
+  pub rest : (replay (opening_of blocks lines) end.book.journal).tasks ≡ []
+  pub disk : end.disk ≡ (replay (opening_of blocks lines) end.book.journal).blocks
+
+-- one end for the unit that is declared, and none where none is
+abbrev pub AreEndsOf : Option ℕ → List Line → List UnitEnd → Type 0
+AreEndsOf None lines ends = ends ≡ []
+AreEndsOf (Some blocks) lines ends = (end : UnitEnd) × (ends ≡ end ∷ []) × IsEnd blocks lines end
+
+abbrev pub AreEnds : List Line → List UnitEnd → Type 0
+AreEnds lines ends = AreEndsOf (declared_blocks lines) lines ends
+
+-- a script was read and played, and its whole report was written
+pub record IsReported (left_old left_new held_old held_new : Option (List ℕ)) (sent : ℕ) (ends : List UnitEnd) : Type 0 where
   pub lines : List Line
   pub script : WasRead left_old left_new (Ok lines)
-  pub written : Appends held_old held_new (take sent (report_text lines))
-  pub part : sent < length (report_text lines)
+  pub ended : AreEnds lines ends
+  pub written : Appends held_old held_new (report_text ends)
+  pub whole : sent ≡ length (report_text ends)
+
+-- a script was read and played, and its report was written up to some byte
+pub record IsCutShort (left_old left_new held_old held_new : Option (List ℕ)) (sent : ℕ) (ends : List UnitEnd) : Type 0 where
+  pub lines : List Line
+  pub script : WasRead left_old left_new (Ok lines)
+  pub ended : AreEnds lines ends
+  pub written : Appends held_old held_new (take sent (report_text ends))
+  pub part : sent < length (report_text ends)
 
 -- words, source and sink of which a report is to come: a written command, a script that is short enough, no fault
 pub record IsPlayable (words : List (List ℕ)) (left : Option (List ℕ)) (source_before source_now sink_before sink_now : ℕ) : Type 0 where

@@ -1,17 +1,17 @@
 //! What `play` does with one logical unit.
 
-ghost use Rattle.std.specs.Prelude.{◌≡◌, ◌≤◌, ◌<◌, ◌-◌, [], length, replicate, IfOk, OnOk, IsSome, sum_by, count_by};
+ghost use Rattle.std.specs.Prelude.{◌≡◌, ◌≤◌, ◌<◌, [], length, replicate, IfOk, OnOk};
 ghost use Rattle.ct_machine.specs.Runs.{replay, IsRun};
-ghost use Rattle.ct_machine.specs.Laws.{reserved_events};
-ghost use Rattle.ct_pair.specs.Pairs.{PairState};
-ghost use Rattle.ct_script.specs.Rules.{is_command};
+ghost use Rattle.ct_script.specs.Rules.{IsWithin, IsInRange, line_asked};
 ghost use Rattle.ct_top.specs.Commands.{pieces_in, room_of, opening_of};
-ghost use Rattle.ct_top.specs.Played.{Acted, Drains, ByLine, IsPlayed};
+ghost use Rattle.ct_top.specs.Played.{MayFail, Drains, ByLine, ByLines, IsPlayed};
 
 use ct_book::{Cmd, Work};
+use ct_cdb::decode;
 use ct_law::{acts_write, next_does_something, runs_fit_their_room};
 use ct_medium::Backend;
 use ct_pair::{Act, Answer, End, Pair};
+use ct_plan::Plan;
 use ct_script::{Line, Script, Word};
 use ct_word::{CmdNo, Ha, LunNo, NoMemory, Node, Room};
 use std::alloc::Global;
@@ -25,19 +25,125 @@ const POOL: u32 = 16_384;
 /// The most block operations of an act that does what is next.
 const NEXT: u32 = 65_536;
 
+/// The number under which a nexus sees the unit, as a set of bits.
+const VISIBLE: u16 = 1;
+
+/// Plays a script on the logical unit that it declares, over a medium of that many blocks. The error is that memory ran
+/// out, which can be before an act alone.
+pub fn play_on<B: Backend>(alloc: Global, script: Script, medium: B) -> Result<End<B>, NoMemory>
+    requires some { 1 ≤ length (B.blocks medium) }
+    requires few { length (B.blocks medium) ≤ 65536 }
+    requires zeros { B.blocks medium ≡ replicate (length (B.blocks medium)) (replicate 512 0) }
+    requires unfailed { B.faults medium ≡ 0 }
+    ensures lun { IfOk result (λ end. end.lun ≡ record { 0 = 0 }) }
+    ensures played { IfOk result (λ end. IsPlayed (opening_of (length (B.blocks medium)) script) (MayFail 0 (B.faults end.medium)) script end.book.journal) }
+    ensures run { IfOk result (λ end. IsRun (opening_of (length (B.blocks medium)) script) end.book.journal) }
+    ensures blocks { IfOk result (λ end. B.blocks end.medium ≡ (replay (opening_of (length (B.blocks medium)) script) end.book.journal).blocks) }
+{
+    script.is_within();
+    let room = room_of(script.lines(), medium.len());
+    let mut pair = Pair::open(alloc, Ha::None, LunNo(0), DEPTH, POOL, room, medium)?;
+    play_lines(alloc, &mut pair, script.into_lines())?;
+    drain(&mut pair);
+    Ok(pair.close())
+}
+
+// Exactly the room that the commands of these lines take, on a disk of so many blocks.
+fn room_of(lines: &[Line], blocks: u32) -> Room
+    requires within { IsWithin lines.now }
+    requires few { blocks ≤ 65536 }
+    ensures { result ≡ room_of blocks lines.now }
+{
+    let mut commands = 0;
+    let mut pieces = 0;
+    for line in lines {
+        if let Word::Cmd { .. } = &line.word {
+            commands += 1;
+        }
+        pieces += pieces_in(line, blocks);
+    }
+    Room {
+        commands,
+        functions: 0,
+        pieces,
+    }
+}
+
+// How many block operations a line's command plans.
+#[tactic(auto, unfolding(ct_exec::specs::Executions::plan_in, ct_plan::specs::Plans::plan_of))]
+fn pieces_in(line: &Line, blocks: u32) -> u32
+    requires { blocks ≤ 65536 }
+    ensures pieces { result ≡ pieces_in blocks line.now }
+    ensures asked { result ≤ line_asked line.now }
+{
+    match &line.word {
+        Word::Cmd { cdb, out, .. } => match decode(cdb.as_slice()) {
+            Ok(cdb) => Plan::of(&cdb.op, out.as_slice(), blocks).length(),
+            Err(_) => 0,
+        },
+        _ => 0,
+    }
+}
+
+// The lines, one after another.
+fn play_lines<B: Backend>(
+    alloc: Global,
+    pair: &mut Pair<B>,
+    lines: Vec<Line>,
+) -> Result<(), NoMemory>
+    requires { IsWithin lines.items }
+    ensures opening { pair.new.opening ≡ pair.old.opening }
+    ensures later { pair.old.desk.faults ≤ pair.new.desk.faults }
+    ensures done { OnOk result (ByLines pair.old.opening (MayFail pair.old.desk.faults pair.new.desk.faults) lines.items pair.old.book.journal pair.new.book.journal) }
+{
+    for line in lines {
+        play_line(alloc, pair, line)?;
+    }
+    Ok(())
+}
+
+fn play_line<B: Backend>(alloc: Global, pair: &mut Pair<B>, line: Line) -> Result<(), NoMemory>
+    requires { IsInRange line.word }
+    ensures opening { pair.new.opening ≡ pair.old.opening }
+    ensures later { pair.old.desk.faults ≤ pair.new.desk.faults }
+    ensures done { OnOk result (ByLine pair.old.opening (MayFail pair.old.desk.faults pair.new.desk.faults) line.no line.word pair.old.book.journal pair.new.book.journal) }
+{
+    let Line { no, word } = line;
+    match word {
+        Word::Cmd {
+            n,
+            tag,
+            attr,
+            cdb,
+            out,
+            ..
+        } => {
+            let command = Cmd::new(alloc, no, n, VISIBLE, tag, attr, cdb.as_slice(), out)?;
+            pair.act(Act::Arrive(Node::A, Work::Cmd(command)));
+        }
+        Word::Step { no, blocks, .. } => {
+            pair.act(Act::Step(CmdNo::new(no), blocks));
+        }
+        Word::Drain { .. } | Word::Sync => drain(pair),
+        Word::Lun { .. } | Word::Port { .. } | Word::Map { .. } => {}
+    }
+    Ok(())
+}
+
 // All that can be done is done.
 fn drain<B: Backend>(pair: &mut Pair<B>)
     ensures opening { pair.new.opening ≡ pair.old.opening }
     ensures later { pair.old.desk.faults ≤ pair.new.desk.faults }
-    ensures drained { Drains pair.old.opening (λ fault. IsSome fault → pair.old.desk.faults < pair.new.desk.faults) pair.old.book.journal pair.new.book.journal }
+    ensures drained { Drains pair.old.opening (MayFail pair.old.desk.faults pair.new.desk.faults) pair.old.book.journal pair.new.book.journal }
 {
     loop {
         pair.journal_is_a_run();
         next_does_something();
         acts_write();
-        runs_fit_their_room();
         if let Answer::Idle = pair.act(Act::Next(NEXT)) {
             return;
         }
+        pair.journal_is_a_run();
+        runs_fit_their_room();
     }
 }

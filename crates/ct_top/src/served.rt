@@ -1,17 +1,22 @@
 //! The top call.
 
-ghost use Rattle.std.specs.Prelude.{◌≡◌, ◌≢◌, ◌<◌, ◌↔◌, ◌⊎◌, None, length, take, map, string_bytes, IfOk, IfErr, Ok, Err};
+ghost use Rattle.std.specs.Prelude.{◌≡◌, ◌≢◌, ◌<◌, ◌≤◌, ◌↔◌, ◌⊎◌, None, length, take, map, string_bytes, IfOk, IfErr, IfSome, Ok, Err};
 ghost use Rattle.std.specs.Io.KnownBytes.{Appends};
 ghost use Rattle.ct_io.specs.Causes.{Rose};
 ghost use Rattle.ct_io.specs.Streams.{IsLongerThan};
 ghost use Rattle.ct_top.specs.Exits.{IfScript, IsWritten, IsRefusal, status_of};
-ghost use Rattle.ct_top.specs.Served.{command_of, most_bytes, WasRead, IsReported, IsCutShort, IsPlayable};
+ghost use Rattle.ct_script.specs.Rules.{AreInRange};
+ghost use Rattle.ct_top.specs.Commands.{declared_blocks};
+ghost use Rattle.ct_top.specs.Report.{report_text};
+ghost use Rattle.ct_top.specs.Served.{command_of, most_bytes, WasRead, AreEnds, IsEnd, IsReported, IsCutShort, IsPlayable};
 
 use crate::command::{Command, read_command};
-use crate::parse::parse;
-use crate::report;
-use crate::script::{ParseError, Script, ScriptFault};
+use crate::played::play_on;
+use crate::report::{UnitEnd, text};
 use ct_io::{Sink, Source, TakeError, put_all, take_all};
+use ct_medium::Ram;
+use ct_pair::End;
+use ct_script::{Line, ParseError, Script, ScriptFault, Word, parse};
 use ct_word::NoMemory;
 use std::alloc::Global;
 
@@ -54,11 +59,13 @@ impl Exit {
 }
 
 /// What a call did.
-#[derive(Clone, Copy, Debug, PartialEq, Eq)]
+#[derive(Debug, Drop)]
 pub struct Served {
     pub exit: Exit,
     /// How many bytes of the text the sink took.
     pub sent: u64,
+    /// What was played on each logical unit of the script, where the exit is Done or Write.
+    pub ends: Vec<UnitEnd>,
 }
 
 /// Does what the words ask for: `play` reads a script from the source and writes its report to the sink.
@@ -69,7 +76,7 @@ pub fn target_one<S: Source, K: Sink>(
     sink: &mut K,
 ) -> Served
     ensures done { result.exit ≡ Exit.Done →
-        IsReported (S.left source.old) (S.left source.new) (K.held sink.old) (K.held sink.new) result.sent }
+        IsReported (S.left source.old) (S.left source.new) (K.held sink.old) (K.held sink.new) result.sent result.ends.items }
 
     ensures usage { (result.exit ≡ Exit.Usage) ↔ (command_of (map string_bytes words.now.items) ≡ None) }
     ensures unread { result.exit ≡ Exit.Usage → source.new ≡ source.old }
@@ -79,7 +86,7 @@ pub fn target_one<S: Source, K: Sink>(
     ensures read { result.exit ≡ Exit.Read → Rose (S.faults source.old) (S.faults source.new) }
 
     ensures write { result.exit ≡ Exit.Write →
-        IsCutShort (S.left source.old) (S.left source.new) (K.held sink.old) (K.held sink.new) result.sent }
+        IsCutShort (S.left source.old) (S.left source.new) (K.held sink.old) (K.held sink.new) result.sent result.ends.items }
     ensures write_fault { result.exit ≡ Exit.Write → Rose (K.faults sink.old) (K.faults sink.new) }
     ensures unwritten { IsWritten result.exit ⊎ ((sink.new ≡ sink.old) × (result.sent ≡ 0)) }
 
@@ -89,35 +96,93 @@ pub fn target_one<S: Source, K: Sink>(
         → (result.exit ≡ Exit.Done) ⊎ (result.exit ≡ Exit.Memory) }
 {
     match read_command(words.as_slice()) {
-        None => unwritten(Exit::Usage),
+        None => unwritten(alloc, Exit::Usage),
         Some(Command::Play) => play(alloc, source, sink),
     }
 }
 
-fn unwritten(exit: Exit) -> Served
-    ensures { result ≡ record { exit = exit; sent = 0 } }
+fn unwritten(alloc: Global, exit: Exit) -> Served
+    ensures exit { result.exit ≡ exit }
+    ensures sent { result.sent ≡ 0 }
 {
-    Served { exit, sent: 0 }
+    Served {
+        exit,
+        sent: 0,
+        ends: Vec::new(alloc),
+    }
 }
 
 fn play<S: Source, K: Sink>(alloc: Global, source: &mut S, sink: &mut K) -> Served
     ensures done { result.exit ≡ Exit.Done →
-        IsReported (S.left source.old) (S.left source.new) (K.held sink.old) (K.held sink.new) result.sent }
+        IsReported (S.left source.old) (S.left source.new) (K.held sink.old) (K.held sink.new) result.sent result.ends.items }
     ensures no_usage { result.exit ≢ Exit.Usage }
     ensures script { IfScript result.exit (λ fault. WasRead (S.left source.old) (S.left source.new) (Err fault)) }
     ensures too_long { result.exit ≡ Exit.TooLong → IsLongerThan most_bytes (S.left source.old) }
     ensures read { result.exit ≡ Exit.Read → Rose (S.faults source.old) (S.faults source.new) }
     ensures write { result.exit ≡ Exit.Write →
-        IsCutShort (S.left source.old) (S.left source.new) (K.held sink.old) (K.held sink.new) result.sent }
+        IsCutShort (S.left source.old) (S.left source.new) (K.held sink.old) (K.held sink.new) result.sent result.ends.items }
     ensures write_fault { result.exit ≡ Exit.Write → Rose (K.faults sink.old) (K.faults sink.new) }
     ensures unwritten { IsWritten result.exit ⊎ ((sink.new ≡ sink.old) × (result.sent ≡ 0)) }
 {
     match read_script(alloc, source) {
-        Ok(script) => match report::text(alloc, &script) {
-            Ok(text) => write_text(sink, text.as_slice()),
-            Err(NoMemory) => unwritten(Exit::Memory),
+        Ok(script) => match play_script(alloc, script) {
+            Ok(ends) => report_ends(alloc, ends, sink),
+            Err(NoMemory) => unwritten(alloc, Exit::Memory),
         },
-        Err(exit) => unwritten(exit),
+        Err(exit) => unwritten(alloc, exit),
+    }
+}
+
+// Plays a script on the unit that it declares, if it declares one.
+fn play_script(alloc: Global, script: Script) -> Result<Vec<UnitEnd>, NoMemory>
+    ensures { IfOk result (λ ends. AreEnds script ends.items) }
+{
+    script.is_within();
+    let mut ends = Vec::new(alloc);
+    if let Some(blocks) = declared_blocks(script.lines()) {
+        ends.push(play_unit(alloc, script, blocks)?)?;
+    }
+    Ok(ends)
+}
+
+// The blocks of the first logical unit that the lines declare.
+fn declared_blocks(lines: &[Line]) -> Option<u32>
+    requires { AreInRange lines.now }
+    ensures blocks { result ≡ declared_blocks lines.now }
+    ensures in_range { IfSome result (λ blocks. (1 ≤ blocks) × (blocks ≤ 65536)) }
+{
+    for line in lines {
+        if let Word::Lun { blocks, .. } = &line.word {
+            return Some(*blocks);
+        }
+    }
+    None
+}
+
+fn play_unit(alloc: Global, script: Script, blocks: u32) -> Result<UnitEnd, NoMemory>
+    requires some { 1 ≤ blocks }
+    requires few { blocks ≤ 65536 }
+    ensures { IfOk result (λ end. IsEnd blocks script end) }
+{
+    let End { lun, book, medium } = play_on(alloc, script, Ram::open(alloc, blocks)?)?;
+    Ok(UnitEnd {
+        lun,
+        book,
+        disk: medium,
+    })
+}
+
+// Writes the report of what was played.
+fn report_ends<K: Sink>(alloc: Global, ends: Vec<UnitEnd>, sink: &mut K) -> Served
+    ensures done { result.exit ≡ Exit.Done → Appends (K.held sink.old) (K.held sink.new) (report_text ends.items) × (result.sent ≡ length (report_text ends.items)) × (result.ends.items ≡ ends.items) }
+    ensures write { result.exit ≡ Exit.Write → Appends (K.held sink.old) (K.held sink.new) (take result.sent (report_text ends.items)) × (result.sent < length (report_text ends.items)) × (result.ends.items ≡ ends.items) }
+    ensures write_fault { result.exit ≡ Exit.Write → Rose (K.faults sink.old) (K.faults sink.new) }
+    ensures exits { IsWritten result.exit ⊎ (result.exit ≡ Exit.Memory) }
+    ensures unwritten { IsWritten result.exit ⊎ ((sink.new ≡ sink.old) × (result.sent ≡ 0)) }
+{
+    match text(alloc, ends.as_slice()) {
+        Ok(text) => write_text(sink, text.as_slice(), ends),
+        Err(NoMemory) => unwritten(alloc, Exit::Memory),
     }
 }
 
@@ -130,9 +195,9 @@ fn read_script<S: Source>(alloc: Global, source: &mut S) -> Result<Script, Exit>
     Ok(parse(alloc, bytes.as_slice())?)
 }
 
-fn write_text<K: Sink>(sink: &mut K, text: &[u8]) -> Served
-    ensures done { result.exit ≡ Exit.Done → Appends (K.held sink.old) (K.held sink.new) text.now × (result.sent ≡ length text.now) }
-    ensures write { result.exit ≡ Exit.Write → Appends (K.held sink.old) (K.held sink.new) (take result.sent text.now) × (result.sent < length text.now) }
+fn write_text<K: Sink>(sink: &mut K, text: &[u8], ends: Vec<UnitEnd>) -> Served
+    ensures done { result.exit ≡ Exit.Done → Appends (K.held sink.old) (K.held sink.new) text.now × (result.sent ≡ length text.now) × (result.ends.items ≡ ends.items) }
+    ensures write { result.exit ≡ Exit.Write → Appends (K.held sink.old) (K.held sink.new) (take result.sent text.now) × (result.sent < length text.now) × (result.ends.items ≡ ends.items) }
     ensures write_fault { result.exit ≡ Exit.Write → Rose (K.faults sink.old) (K.faults sink.new) }
     ensures written { IsWritten result.exit }
 {
@@ -140,10 +205,12 @@ fn write_text<K: Sink>(sink: &mut K, text: &[u8]) -> Served
         Ok(()) => Served {
             exit: Exit::Done,
             sent: text.len() as u64,
+            ends,
         },
         Err(fault) => Served {
             exit: Exit::Write,
             sent: fault.sent,
+            ends,
         },
     }
 }
