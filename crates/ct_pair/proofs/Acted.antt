@@ -1,5 +1,5 @@
 -- A pair behind an act that did what the machine does.
-use Rattle.std.proofs.Common.{◌≡◌, ℕ, zero, suc, ◌+◌, ◌<◌, ◌≤◌, List, [], ◌∷◌, ◌++◌, Bool, false, nat_lt, if◌then◌else◌, Option, Some, None, IsSome, length, fold, refl, sym, ap, ◌∙◌, subst, arith}
+use Rattle.std.proofs.Common.{◌≡◌, ℕ, zero, suc, ◌+◌, ◌<◌, ◌≤◌, List, [], ◌∷◌, ◌++◌, Bool, false, nat_lt, if◌then◌else◌, Option, Some, None, IsSome, map, refl, sym, ap, ◌∙◌, subst, arith}
 use Rattle.std.specs.List.{All}
 use Rattle.std.proofs.lemmas.List.Elements.{All-append}
 use Rattle.std.proofs.lemmas.List.Sums.{fold-append}
@@ -12,23 +12,24 @@ use Rattle.ct_machine.specs.declared.act.Answer.TheVariants as answer
 use Rattle.ct_word.specs.declared.names.Node.{Node}
 use Rattle.ct_word.specs.declared.names.Node.TheVariants.{A, B}
 use Rattle.ct_tmf.specs.declared.function.Ask.{Ask}
+use Rattle.ct_book.specs.declared.work.Command.{Command}
 use Rattle.ct_book.specs.declared.work.Work.TheVariants as work
 use Rattle.std.proofs.lemmas.Bool.{false≢true}
 use Rattle.std.proofs.lemmas.List.{append-nil}
-use Rattle.ct_pair.proofs.Functions.{functions_stay}
+use Rattle.ct_pair.proofs.Events.{functions_stay, arrivals_stay}
 use Rattle.ct_machine.specs.declared.act.Opening.{Opening}
 use Rattle.ct_machine.specs.States.{State, task_of}
 use Rattle.ct_machine.specs.Events.{after_events}
-use Rattle.ct_machine.specs.Acts.{Done, doing, Written, act_of, unchanged, next_number, has_room_for, arriving_at, stepping, stepping_next, next_step}
-use Rattle.ct_machine.specs.Runs.{replay, IsAllowed, Move, written, journal_of, IsRun}
+use Rattle.ct_machine.specs.Acts.{Done, doing, Written, act_of, unchanged, next_number, has_room_for, arriving, arriving_at, stepping, stepping_next, next_step}
+use Rattle.ct_machine.specs.Runs.{replay, IsAtNode, IsAllowed, Move, written, journal_of, IsRun}
 use Rattle.ct_law.proofs.Growing.{replay-append}
 use Rattle.ct_lun.specs.Desk.{Desk}
-use Rattle.ct_lun.specs.States.{state_of}
+use Rattle.ct_lun.specs.States.{at_a, state_of}
 use Rattle.ct_lun.specs.Agreement.{AgreesWith}
 use Rattle.ct_lun.specs.Rooms.{room_of}
 use Rattle.ct_lun.specs.Calls.{Does}
-use Rattle.ct_pair.specs.Pairs.{PairState, medium_cuts, IsPair, Acts}
-use Rattle.ct_pair.proofs.Cuts.{medium_cuts-append, most_cuts, steps, steps_next}
+use Rattle.ct_pair.specs.Pairs.{medium_cuts, IsPair, Acts}
+use Rattle.ct_pair.proofs.Steps.{medium_cuts-append, most_cuts, comes, steps, steps_next}
 
 -- a run grows by an act that can come
 
@@ -108,7 +109,7 @@ answered_by d d' p p' a said x = x.answer
 
 pub did_step : (o : Opening) (d d' : Desk) (p p' : BookState) (number count : ℕ) (said : Answer) → IsPair o d p
     → (x : Does d d' p p' (λ fault. stepping (task_of number (state_of d p).tasks) number count fault (state_of d p)) said) → Did o d d' p p' (act.Step number count) x.fault
-did_step o d d' p p' number count said h x = did_by o d d' p p' (act.Step number count) said h x (steps (task_of number (state_of d p).tasks) number count x.fault (state_of d p))
+did_step o d d' p p' number count said h x = did_by o d d' p p' (act.Step number count) said h x (steps (task_of number (state_of d p).tasks) number count x.fault (state_of d p)).cuts
 
 pub acted_step : (o : Opening) (d d' : Desk) (p p' : BookState) (number count : ℕ) (said : Answer) → IsPair o d p
     → Does d d' p p' (λ fault. stepping (task_of number (state_of d p).tasks) number count fault (state_of d p)) said
@@ -116,9 +117,20 @@ pub acted_step : (o : Opening) (d d' : Desk) (p p' : BookState) (number count : 
 acted_step o d d' p p' number count said h x =
     acted o d d' p p' (act.Step number count) x.fault said h (did_step o d d' p p' number count said h x) (answered_by d d' p p' (act.Step number count) said x)
 
+-- the works are those that had come before
+pub works_step : (d d' : Desk) (p p' : BookState) (number count : ℕ) (said : Answer) → Does d d' p p' (λ fault. stepping (task_of number (state_of d p).tasks) number count fault (state_of d p)) said
+    → (state_of d p).arrivals ≡ map at_a p'.works
+works_step d d' p p' number count said x =
+    sym (ap (λ (s : State). s.arrivals) x.state ∙ arrivals_stay (state_of d p) (stepping (task_of number (state_of d p).tasks) number count x.fault (state_of d p)).turn.journal (steps (task_of number (state_of d p).tasks) number count x.fault (state_of d p)).works)
+
+pub works_next : (d d' : Desk) (p p' : BookState) (count : ℕ) (said : Answer) → Does d d' p p' (λ fault. stepping_next (next_step (state_of d p)) count fault (state_of d p)) said
+    → (state_of d p).arrivals ≡ map at_a p'.works
+works_next d d' p p' count said x =
+    sym (ap (λ (s : State). s.arrivals) x.state ∙ arrivals_stay (state_of d p) (stepping_next (next_step (state_of d p)) count x.fault (state_of d p)).turn.journal (steps_next (next_step (state_of d p)) count x.fault (state_of d p)).works)
+
 pub did_next : (o : Opening) (d d' : Desk) (p p' : BookState) (count : ℕ) (said : Answer) → IsPair o d p
     → (x : Does d d' p p' (λ fault. stepping_next (next_step (state_of d p)) count fault (state_of d p)) said) → Did o d d' p p' (act.Next count) x.fault
-did_next o d d' p p' count said h x = did_by o d d' p p' (act.Next count) said h x (steps_next (next_step (state_of d p)) count x.fault (state_of d p))
+did_next o d d' p p' count said h x = did_by o d d' p p' (act.Next count) said h x (steps_next (next_step (state_of d p)) count x.fault (state_of d p)).cuts
 
 pub acted_next : (o : Opening) (d d' : Desk) (p p' : BookState) (count : ℕ) (said : Answer) → IsPair o d p
     → Does d d' p p' (λ fault. stepping_next (next_step (state_of d p)) count fault (state_of d p)) said
@@ -164,3 +176,21 @@ pub acted_ask : (o : Opening) (d : Desk) (p : BookState) (node : Node) (ask : As
 acted_ask o d p node ask h =
     let none : p.functions ≡ 0 = ap (λ (s : State). s.room.functions) h.state ∙ functions_stay o p.journal h.single.functions in
     acted_refused o d p node (work.Ask ask) h (ap (nat_lt 0) none)
+
+-- a command comes
+
+came_few : (fault : Option ℕ) (s : State) (c : Command) → medium_cuts (arriving A (work.Cmd c) s).turn.journal ≤ most_cuts fault
+came_few None s c = let none = comes s c in omega (arith, none)
+came_few (Some place) s c = let none = comes s c in omega (arith, none)
+
+pub did_come : (o : Opening) (d d' : Desk) (p p' : BookState) (node : Node) (c : Command) (said : Answer) → IsAtNode o node → IsPair o d p
+    → (x : Does d d' p p' (λ fault. arriving A (work.Cmd c) (state_of d p)) said) → Did o d d' p p' (act.Arrive node (work.Cmd c)) x.fault
+did_come o d d' p p' A c said at h x = did_by o d d' p p' (act.Arrive A (work.Cmd c)) said h x (came_few x.fault (state_of d p) c)
+did_come o d d' p p' B c said at h x = absurd (at h.single.ha)
+
+pub acted_come : (o : Opening) (d d' : Desk) (p p' : BookState) (node : Node) (c : Command) (said : Answer) → IsAtNode o node → IsPair o d p
+    → Does d d' p p' (λ fault. arriving A (work.Cmd c) (state_of d p)) said
+    → Acts (record { opening = o; desk = d; book = p }) (record { opening = o; desk = d'; book = p' }) (act.Arrive node (work.Cmd c)) said
+acted_come o d d' p p' A c said at h x =
+    acted o d d' p p' (act.Arrive A (work.Cmd c)) x.fault said h (did_come o d d' p p' A c said at h x) (answered_by d d' p p' (act.Arrive A (work.Cmd c)) said x)
+acted_come o d d' p p' B c said at h x = absurd (at h.single.ha)

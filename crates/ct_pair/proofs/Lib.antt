@@ -1,6 +1,5 @@
-pub mod Functions
-pub mod Rooms
-pub mod Cuts
-pub mod Acted
-pub mod Added
-pub mod Opened
+mod Events
+mod Rooms
+mod Steps
+mod Acted
+mod Opened

@@ -1,14 +1,12 @@
 -- A pair as it is opened.
-use Rattle.std.proofs.Common.{◌≡◌, ℕ, ◌+◌, ◌≤◌, List, [], ◌∷◌, replicate, length, refl, sym, ap, ◌∙◌, subst, arith}
+use Rattle.std.proofs.Common.{◌≡◌, ℕ, ◌≤◌, List, [], replicate, length, refl, sym, ap, ◌∙◌, subst, arith}
 use Rattle.std.specs.List.{All}
 use Rattle.ct_word.specs.declared.names.Ha.{Ha}
-use Rattle.ct_word.specs.declared.names.LunNo.{LunNo}
-use Rattle.ct_word.specs.declared.names.Room.{Room}
 use Rattle.ct_book.specs.Journals.{BookState}
 use Rattle.ct_book.specs.Kept.{empty_book}
 use Rattle.ct_exec.specs.Controls.{opening_control, is_unrestricted}
 use Rattle.ct_machine.specs.declared.act.Opening.{Opening}
-use Rattle.ct_machine.specs.States.{State, opened}
+use Rattle.ct_machine.specs.States.{opened}
 use Rattle.ct_machine.specs.Runs.{replay, IsAllowed, Move, journal_of, IsRun}
 use Rattle.ct_lun.specs.Desk.{Desk}
 use Rattle.ct_lun.specs.States.{state_of}

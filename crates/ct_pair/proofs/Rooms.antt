@@ -1,5 +1,5 @@
 -- The room that a unit with a command asks for.
-use Rattle.std.proofs.Common.{◌≡◌, ℕ, ◌+◌, ◌*◌, ◌<◌, ◌≤◌, List, [], ◌∷◌, length, sum_by, refl, ap, arith}
+use Rattle.std.proofs.Common.{ℕ, ◌<◌, ◌≤◌, List, [], ◌∷◌, length, sum_by, arith}
 use Rattle.std.proofs.lemmas.List.Sums.{sum_by-cons}
 use Rattle.ct_book.specs.Journals.{BookState}
 use Rattle.ct_exec.specs.Executions.{plan_in}
@@ -28,3 +28,8 @@ room_some d p some = let few = go d.slots some in omega (arith, few)
         let least = least_room task.stage (length (plan_in (length d.blocks) task.command)) in
         let sum = sum_by-cons (task_room (length d.blocks)) task (tasks_in p.works slots) in
         omega (arith, least, sum)
+
+-- an arrival writes two events
+pub room_came : (d : Desk) (p : BookState) → 0 < p.commands → 2 ≤ room_of (state_of d p)
+unfolding room_of
+room_came d p some = omega (arith, some)

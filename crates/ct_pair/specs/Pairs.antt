@@ -8,13 +8,10 @@ use Rattle.ct_book.specs.declared.event.Logged.{Logged}
 use Rattle.ct_book.specs.Journals.{BookState}
 use Rattle.ct_machine.specs.declared.act.Act.{Act}
 use Rattle.ct_machine.specs.declared.act.Answer.{Answer}
-use Rattle.ct_machine.specs.declared.act.Answer.TheVariants as answer
 use Rattle.ct_machine.specs.declared.act.Opening.{Opening}
 use Rattle.ct_machine.specs.States.{State}
 use Rattle.ct_machine.specs.Acts.{act_of}
 use Rattle.ct_machine.specs.Runs.{replay, IsRun}
-use Rattle.ct_lun.specs.declared.said.Entered.{Entered}
-use Rattle.ct_lun.specs.declared.said.Entered.TheVariants.{Queued, Turned}
 use Rattle.ct_lun.specs.Desk.{Desk}
 use Rattle.ct_lun.specs.States.{state_of}
 use Rattle.ct_lun.specs.Agreement.{AgreesWith}
@@ -62,8 +59,3 @@ pub record Acts (old new : PairState) (act : Act) (said : Answer) : Type 0 where
   pub opening : new.opening ≡ old.opening
   pub cause : IsSome fault → old.desk.faults < new.desk.faults
   pub later : old.desk.faults ≤ new.desk.faults
-
--- the answer to the arrival of a command
-abbrev pub entered_answer : ℕ → Entered → Answer
-entered_answer number Queued = answer.Queued number
-entered_answer number Turned = answer.Turned number

@@ -3,7 +3,9 @@
 #![tactic(auto)]
 
 mod pair;
-mod standin;
 
 pub use ct_machine::{Act, Answer, Opening};
 pub use pair::{End, Pair};
+
+#[cfg(test)]
+mod tests;

@@ -1,19 +1,19 @@
-ghost use Rattle.std.specs.Prelude.{◌≡◌, ◌<◌, ◌≤◌, ◌^◌, [], replicate, length, map, IfOk};
+ghost use Rattle.std.specs.Prelude.{◌≡◌, ◌<◌, ◌≤◌, ◌^◌, [], replicate, length, map, true, false, IfOk, IfErr, OnErr};
 ghost use Rattle.ct_word.specs.declared.names.Ha.TheVariants as mode;
 ghost use Rattle.ct_book.specs.declared.work.Work.TheVariants as work;
 ghost use Rattle.ct_book.specs.Kept.{events_for};
 ghost use Rattle.ct_machine.specs.declared.act.Act.TheVariants as act;
 ghost use Rattle.ct_machine.specs.declared.act.Answer.TheVariants as answer;
+ghost use Rattle.ct_exec.specs.Executions.{plan_in};
 ghost use Rattle.ct_machine.specs.States.{State};
 ghost use Rattle.ct_machine.specs.Acts.{line_by};
 ghost use Rattle.ct_machine.specs.Runs.{replay, IsAllowed, IsRun};
-ghost use Rattle.ct_book.specs.Journals.{numbered};
+ghost use Rattle.ct_book.specs.Journals.{numbered, has_room};
 ghost use Rattle.ct_word.specs.declared.names.Node.TheVariants as node;
 ghost use Rattle.ct_lun.specs.States.{at_a};
 ghost use Rattle.ct_lun.specs.Calls.{said, said_next};
-ghost use Rattle.ct_pair.specs.Pairs.{PairState, Acts, medium_cuts, entered_answer};
+ghost use Rattle.ct_pair.specs.Pairs.{PairState, Acts, medium_cuts};
 
-use crate::standin::{close, enter};
 use ct_book::{Book, Cmd, Work};
 use ct_exec::plan;
 use ct_lun::{Entered, Lun, Stepped};
@@ -41,12 +41,12 @@ impl<B: Backend> Model for Pair<B> {
     ghost invariant = { λ p. IsPair p.opening p.lun p.book };
 }
 
-/// What a closed pair leaves: which logical unit it was, its book and its medium.
+/// What a closed pair leaves: which logical unit it was, its book, and the unit with its medium.
 #[derive(Drop)]
 pub struct End<B: Backend> {
     pub lun: LunNo,
     pub book: Book,
-    pub medium: B,
+    pub unit: Lun<B>,
 }
 
 impl<B: Backend> Pair<B> {
@@ -110,32 +110,16 @@ impl<B: Backend> Pair<B> {
         }
     }
 
+    // A work comes. It is handed back where there is no room for it; else the command enters, or is refused.
     fn arrive(&mut self, node: Node, work: Work<Cmd>) -> Answer
         requires { IsAllowed self.old.opening (act.Arrive node work) }
         ensures { Acts self.old self.new (act.Arrive node work) result }
     {
         match work {
-            Work::Cmd(cmd) => self.come(node, cmd),
+            Work::Cmd(cmd) => self.lun.arrive(cmd, &mut self.book),
             Work::Ask(ask) => {
                 let _ = &self.opening;
                 Answer::NoRoom(Work::Ask(ask))
-            }
-        }
-    }
-
-    // A command comes. It is handed back where there is no room for it, and else it enters, or is refused.
-    fn come(&mut self, node: Node, cmd: Cmd) -> Answer
-        requires { IsAllowed self.old.opening (act.Arrive node (work.Cmd cmd)) }
-        ensures { Acts self.old self.new (act.Arrive node (work.Cmd cmd)) result }
-    {
-        // its contract says that each work has a place for its reply
-        let _ = self.book.len();
-        let pieces = plan(cmd.command(), self.lun.blocks()).length();
-        match self.book.add(node, Work::Cmd(cmd), pieces) {
-            Err(work) => Answer::NoRoom(work),
-            Ok(no) => {
-                let entered = enter(&mut self.lun, no, &mut self.book);
-                entered_as(no, entered)
             }
         }
     }
@@ -163,38 +147,21 @@ impl<B: Backend> Pair<B> {
         &self.book
     }
 
-    /// The journal is a run of the machine at any time, and no task management function is open.
-    pub fn journal_is_a_run(&self)
-        ensures run { IsRun self.now.opening self.now.book.journal }
-        ensures closed { (replay self.now.opening self.now.book.journal).functions ≡ [] }
-    {
-        let _ = &self.opening;
-    }
-
-    /// The book and the medium, at the end of a run.
+    /// The book, and the unit with its medium: the journal is a run, and the blocks are those that it leads to.
     pub fn close(self) -> End<B>
         ensures lun { result.lun ≡ self.opening.lun }
         ensures book { result.book ≡ self.book }
-        ensures run { IsRun self.opening result.book.journal }
-        ensures blocks { B.blocks result.medium ≡ (replay self.opening result.book.journal).blocks }
-        ensures cuts { medium_cuts result.book.journal ≤ B.faults result.medium }
+        ensures unit { result.unit ≡ self.desk }
+        ensures run { IsRun self.opening self.book.journal }
+        ensures blocks { self.desk.blocks ≡ (replay self.opening self.book.journal).blocks }
+        ensures cuts { medium_cuts self.book.journal ≤ self.desk.faults }
     {
         let Pair { opening, lun, book } = self;
         End {
             lun: opening.lun,
             book,
-            medium: close(lun),
+            unit: lun,
         }
-    }
-}
-
-// The answer to the arrival of a command.
-fn entered_as(no: CmdNo, entered: Entered) -> Answer
-    ensures { result ≡ entered_answer no entered }
-{
-    match entered {
-        Entered::Queued => Answer::Queued(no),
-        Entered::Turned => Answer::Turned(no),
     }
 }
 

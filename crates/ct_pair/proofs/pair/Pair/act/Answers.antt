@@ -1,4 +1,3 @@
-use Rattle.std.proofs.Common.{◌≡◌}
 use Rattle.ct_pair.proofs.Acted.{acted_deliver}
 use Rattle.ct_pair.proofs.pair.Pair.act.Goals as goal
 

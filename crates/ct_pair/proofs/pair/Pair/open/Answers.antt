@@ -1,4 +1,4 @@
-use Rattle.std.proofs.Common.{◌≡◌, replicate, sym, ap, ◌∙◌}
+use Rattle.std.proofs.Common.{replicate, sym, ap, ◌∙◌}
 use Rattle.ct_pair.proofs.Opened.{opened_pair}
 use Rattle.ct_pair.proofs.pair.Pair.open.Goals as goal
 
