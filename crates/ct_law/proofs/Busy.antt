@@ -14,14 +14,14 @@ use Rattle.ct_machine.specs.declared.act.Answer.{Answer}
 use Rattle.ct_machine.specs.declared.act.Answer.TheVariants as answer
 use Rattle.ct_machine.specs.declared.act.Opening.{Opening}
 use Rattle.ct_machine.specs.States.{Stage, Waiting, Here, Granted, There, Over, Task, Message, State, opened, arrival_of, task_of, is_waiting, is_moving, has_begun, held_of, task_set_of}
-use Rattle.ct_machine.specs.Acts.{ends, line_by, moved_answer, first_some, blocked_by, beginning_unless, stepping_at, stepping, delivering_first, messages_to, delivering, first_moving, stepping_next, doing_next, act_of}
+use Rattle.ct_machine.specs.Acts.{next_step, ends, line_by, moved_answer, first_some, blocked_by, beginning_unless, stepping_at, stepping, delivering_first, messages_to, delivering, first_moving, stepping_next, doing_next, act_of}
 use Rattle.ct_machine.specs.Runs.{replay, IsRun}
 use Rattle.ct_machine.specs.Laws.{is_void}
 use Rattle.ct_law.proofs.Tasks.{Has}
 use Rattle.ct_law.proofs.Held.{IsSingle}
 use Rattle.ct_law.proofs.Turns.{found_of}
 use Rattle.ct_law.proofs.Sends.{fine_single}
-use Rattle.ct_law.proofs.Live.{fine_run}
+use Rattle.ct_law.proofs.Live.{fine_run, steps_busy, delivers_busy}
 
 -- something was done, or there is nothing to do
 abbrev IsBusy : Answer → Type 0
@@ -128,3 +128,19 @@ next_is_busy o journal run closed count fault = go s.to_a s.to_b refl refl
     go (m ∷ ms) to_b a b = delivers A m ms a
     go [] (m ∷ ms) a b = delivers B m ms b
     go [] [] a b = ready (next_ready_of (task_set_of s)) refl
+
+pub idle_is_silent : (o : Opening) (journal : List Logged) (count : ℕ) (fault : Option ℕ) → (act_of (replay o journal) (act.Next count) fault).answer ≡ answer.Idle → (act_of (replay o journal) (act.Next count) fault).journal ≡ []
+unfolding act_of
+idle_is_silent o journal count fault = go s.to_a s.to_b refl refl
+  where
+    s : State
+    s = replay o journal
+
+    next : (found : Option ℕ) → (stepping_next found count fault s).answer ≡ answer.Idle → (stepping_next found count fault s).turn.journal ≡ []
+    next None e = refl
+    next (Some number) e = absurd (steps_busy (task_of number s.tasks) number count fault s e)
+
+    go : (to_a to_b : List Message) → s.to_a ≡ to_a → s.to_b ≡ to_b → (doing_next to_a to_b count fault s).answer ≡ answer.Idle → (doing_next to_a to_b count fault s).turn.journal ≡ []
+    go (m ∷ ms) to_b a b e = absurd (delivers_busy A s e)
+    go [] (m ∷ ms) a b e = absurd (delivers_busy B s e)
+    go [] [] a b e = next (next_step s) e

@@ -44,7 +44,7 @@ steps_busy_at (There done got) x count fault s e = moved_busy x.no s (stepping_a
 steps_busy_at Granted x count fault s e = cc
 steps_busy_at Over x count fault s e = cc
 
-steps_busy : (found : Option Task) (n count : ℕ) (fault : Option ℕ) (s : State) → (stepping found n count fault s).answer ≢ answer.Idle
+pub steps_busy : (found : Option Task) (n count : ℕ) (fault : Option ℕ) (s : State) → (stepping found n count fault s).answer ≢ answer.Idle
 steps_busy (Some x) n count fault s e = steps_busy_at x.stage x count fault s e
 steps_busy None n count fault s e = go (list_any (is_sent n) s.to_a) e
   where
@@ -52,7 +52,7 @@ steps_busy None n count fault s e = go (list_any (is_sent n) s.to_a) e
     go true e = cc
     go false e = cc
 
-delivers_busy : (node : Node) (s : State) → (delivering node s).answer ≢ answer.Idle
+pub delivers_busy : (node : Node) (s : State) → (delivering node s).answer ≢ answer.Idle
 delivers_busy node s = go (messages_to node s)
   where
     go : (ms : List Message) → (delivering_first node ms s).answer ≢ answer.Idle

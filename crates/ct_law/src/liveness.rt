@@ -21,6 +21,13 @@ pub fn next_does_something()
         → (act_of (replay opening journal) (act.Next count) fault).answer ≡ answer.Idle }
 {}
 
+/// Where `Next` is idle, it writes nothing.
+pub fn idle_is_silent()
+    ensures { (opening : Opening) (journal : List Logged) (count : ℕ) (fault : Option ℕ)
+        → (act_of (replay opening journal) (act.Next count) fault).answer ≡ answer.Idle
+        → (act_of (replay opening journal) (act.Next count) fault).journal ≡ [] }
+{}
+
 /// An act by which something happened, which its answer says, writes an event.
 pub fn acts_write()
     ensures { (opening : Opening) (journal : List Logged) → ActsWrite opening journal }

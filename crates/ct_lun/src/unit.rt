@@ -81,4 +81,19 @@ impl<B: Backend> Lun<B> {
     {
         self.medium.len()
     }
+
+    /// The medium, of which all else is let go.
+    pub fn into_medium(self) -> B
+        ensures blocks { B.blocks result ≡ self.blocks }
+        ensures faults { B.faults result ≡ self.faults }
+    {
+        let Lun {
+            control: _,
+            queue: _,
+            slots: _,
+            pool: _,
+            medium,
+        } = self;
+        medium
+    }
 }

@@ -41,12 +41,12 @@ impl<B: Backend> Model for Pair<B> {
     ghost invariant = { λ p. IsPair p.opening p.lun p.book };
 }
 
-/// What a closed pair leaves: which logical unit it was, its book, and the unit with its medium.
+/// What a closed pair leaves: which logical unit it was, its book and its medium.
 #[derive(Drop)]
 pub struct End<B: Backend> {
     pub lun: LunNo,
     pub book: Book,
-    pub unit: Lun<B>,
+    pub medium: B,
 }
 
 impl<B: Backend> Pair<B> {
@@ -147,20 +147,28 @@ impl<B: Backend> Pair<B> {
         &self.book
     }
 
-    /// The book, and the unit with its medium: the journal is a run, and the blocks are those that it leads to.
+    /// The journal is a run of the machine at any time, and no task management function is open.
+    pub fn journal_is_a_run(&self)
+        ensures run { IsRun self.now.opening self.now.book.journal }
+        ensures closed { (replay self.now.opening self.now.book.journal).functions ≡ [] }
+    {
+        let _ = &self.opening;
+    }
+
+    /// The book and the medium: the journal is a run, and the blocks are those that it leads to.
     pub fn close(self) -> End<B>
         ensures lun { result.lun ≡ self.opening.lun }
         ensures book { result.book ≡ self.book }
-        ensures unit { result.unit ≡ self.desk }
         ensures run { IsRun self.opening self.book.journal }
-        ensures blocks { self.desk.blocks ≡ (replay self.opening self.book.journal).blocks }
+        ensures blocks { B.blocks result.medium ≡ (replay self.opening self.book.journal).blocks }
+        ensures faults { B.faults result.medium ≡ self.desk.faults }
         ensures cuts { medium_cuts self.book.journal ≤ self.desk.faults }
     {
         let Pair { opening, lun, book } = self;
         End {
             lun: opening.lun,
             book,
-            unit: lun,
+            medium: lun.into_medium(),
         }
     }
 }

@@ -137,7 +137,7 @@ fn has_room_for_one_command(rt: HostRuntime) -> Result<(), Fail> {
     let end = pair.close();
     assert_eq!(rt; end.lun, LunNo(3));
     assert_eq!(rt; end.book.len(), 3);
-    assert_eq!(rt; end.unit.blocks(), 8);
+    assert_eq!(rt; end.medium.len(), 8);
     Ok(())
 }
 

@@ -31,7 +31,7 @@ next = act.Next 65536
 
 -- the next thing is done, again and again, until nothing can be done
 pub data Drains (o : Opening) (may : Option ℕ → Type 0) : List Logged → List Logged → Type 0 where
-  idle : (journal : List Logged) (fault : Option ℕ) → may fault → (act_of (replay o journal) next fault).answer ≡ answer.Idle → Drains o may journal (journal ++ (act_of (replay o journal) next fault).journal)
+  idle : (journal : List Logged) (fault : Option ℕ) → may fault → (act_of (replay o journal) next fault).answer ≡ answer.Idle → Drains o may journal journal
   more : (before after end : List Logged) → Acted o may next before after → Drains o may after end → Drains o may before end
 
 -- what a line does
@@ -40,10 +40,10 @@ ByCommand o may None before after = after ≡ before
 ByCommand o may (Some command) before after = Acted o may (act.Arrive A (work.Cmd command)) before after
 
 abbrev pub ByLine : Opening → (Option ℕ → Type 0) → ℕ → Word → List Logged → List Logged → Type 0
-ByLine o may line (Cmd n x tag attr cdb out) = ByCommand o may (command_in line (Cmd n x tag attr cdb out))
-ByLine o may line (Step lun number blocks) = Acted o may (act.Step number blocks)
-ByLine o may line (Drain lun) = Drains o may
-ByLine o may line Sync = Drains o may
+ByLine o may line (Cmd n x tag attr cdb out) before after = ByCommand o may (command_in line (Cmd n x tag attr cdb out)) before after
+ByLine o may line (Step lun number blocks) before after = Acted o may (act.Step number blocks) before after
+ByLine o may line (Drain lun) before after = Drains o may before after
+ByLine o may line Sync before after = Drains o may before after
 ByLine o may line (Lun lun blocks) before after = after ≡ before
 ByLine o may line (Port port node) before after = after ≡ before
 ByLine o may line (Map n x lun) before after = after ≡ before

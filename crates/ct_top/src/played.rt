@@ -8,7 +8,7 @@ ghost use Rattle.ct_top.specs.Played.{MayFail, Drains, ByLine, ByLines, IsPlayed
 
 use ct_book::{Cmd, Work};
 use ct_cdb::decode;
-use ct_law::{acts_write, next_does_something, runs_fit_their_room};
+use ct_law::{acts_write, idle_is_silent, next_does_something, runs_fit_their_room};
 use ct_medium::Backend;
 use ct_pair::{Act, Answer, End, Pair};
 use ct_plan::Plan;
@@ -38,7 +38,7 @@ pub fn play_on<B: Backend>(alloc: Global, script: Script, medium: B) -> Result<E
     ensures lun { IfOk result (λ end. end.lun ≡ record { 0 = 0 }) }
     ensures played { IfOk result (λ end. IsPlayed (opening_of (length (B.blocks medium)) script) (MayFail 0 (B.faults end.medium)) script end.book.journal) }
     ensures run { IfOk result (λ end. IsRun (opening_of (length (B.blocks medium)) script) end.book.journal) }
-    ensures blocks { IfOk result (λ end. B.blocks end.medium ≡ (replay (opening_of (length (B.blocks medium)) script) end.book.journal).blocks) }
+    ensures disk { IfOk result (λ end. B.blocks end.medium ≡ (replay (opening_of (length (B.blocks medium)) script) end.book.journal).blocks) }
 {
     script.is_within();
     let room = room_of(script.lines(), medium.len());
@@ -70,11 +70,10 @@ fn room_of(lines: &[Line], blocks: u32) -> Room
 }
 
 // How many block operations a line's command plans.
-#[tactic(auto, unfolding(ct_exec::specs::Executions::plan_in, ct_plan::specs::Plans::plan_of))]
+#[tactic(auto, unfolding(ct_exec::specs::Executions::plan_in))]
 fn pieces_in(line: &Line, blocks: u32) -> u32
     requires { blocks ≤ 65536 }
-    ensures pieces { result ≡ pieces_in blocks line.now }
-    ensures asked { result ≤ line_asked line.now }
+    ensures { result ≡ pieces_in blocks line.now }
 {
     match &line.word {
         Word::Cmd { cdb, out, .. } => match decode(cdb.as_slice()) {
@@ -139,6 +138,7 @@ fn drain<B: Backend>(pair: &mut Pair<B>)
     loop {
         pair.journal_is_a_run();
         next_does_something();
+        idle_is_silent();
         acts_write();
         if let Answer::Idle = pair.act(Act::Next(NEXT)) {
             return;

@@ -5,7 +5,6 @@ ghost use Rattle.std.specs.Io.KnownBytes.{Appends};
 ghost use Rattle.ct_io.specs.Causes.{Rose};
 ghost use Rattle.ct_io.specs.Streams.{IsLongerThan};
 ghost use Rattle.ct_top.specs.Exits.{IfScript, IsWritten, IsRefusal, status_of};
-ghost use Rattle.ct_script.specs.Rules.{AreInRange};
 ghost use Rattle.ct_top.specs.Commands.{declared_blocks};
 ghost use Rattle.ct_top.specs.Report.{report_text};
 ghost use Rattle.ct_top.specs.Served.{command_of, most_bytes, WasRead, AreEnds, IsEnd, IsReported, IsCutShort, IsPlayable};
@@ -14,6 +13,7 @@ use crate::command::{Command, read_command};
 use crate::played::play_on;
 use crate::report::{UnitEnd, text};
 use ct_io::{Sink, Source, TakeError, put_all, take_all};
+use ct_law::{every_run_is_lawful, runs_are_legal, runs_never_stop};
 use ct_medium::Ram;
 use ct_pair::End;
 use ct_script::{Line, ParseError, Script, ScriptFault, Word, parse};
@@ -134,6 +134,7 @@ fn play<S: Source, K: Sink>(alloc: Global, source: &mut S, sink: &mut K) -> Serv
 }
 
 // Plays a script on the unit that it declares, if it declares one.
+#[tactic(auto, using(crate::proofs::Ranges::blocks_in_range))]
 fn play_script(alloc: Global, script: Script) -> Result<Vec<UnitEnd>, NoMemory>
     ensures { IfOk result (λ ends. AreEnds script ends.items) }
 {
@@ -147,9 +148,7 @@ fn play_script(alloc: Global, script: Script) -> Result<Vec<UnitEnd>, NoMemory>
 
 // The blocks of the first logical unit that the lines declare.
 fn declared_blocks(lines: &[Line]) -> Option<u32>
-    requires { AreInRange lines.now }
-    ensures blocks { result ≡ declared_blocks lines.now }
-    ensures in_range { IfSome result (λ blocks. (1 ≤ blocks) × (blocks ≤ 65536)) }
+    ensures { result ≡ declared_blocks lines.now }
 {
     for line in lines {
         if let Word::Lun { blocks, .. } = &line.word {
@@ -164,6 +163,9 @@ fn play_unit(alloc: Global, script: Script, blocks: u32) -> Result<UnitEnd, NoMe
     requires few { blocks ≤ 65536 }
     ensures { IfOk result (λ end. IsEnd blocks script end) }
 {
+    every_run_is_lawful();
+    runs_are_legal();
+    runs_never_stop();
     let End { lun, book, medium } = play_on(alloc, script, Ram::open(alloc, blocks)?)?;
     Ok(UnitEnd {
         lun,

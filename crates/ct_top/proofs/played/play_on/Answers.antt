@@ -1,0 +1,39 @@
+use Rattle.std.proofs.Common.{◌≡◌, ◌<◌, [], List, length, sym, ap, ◌∙◌, subst}
+use Rattle.ct_word.specs.declared.names.Room.{Room}
+use Rattle.ct_book.specs.declared.event.Logged.{Logged}
+use Rattle.ct_book.specs.Journals.{BookState}
+use Rattle.ct_book.specs.Kept.{events_for}
+use Rattle.ct_machine.specs.declared.act.Opening.{Opening}
+use Rattle.ct_script.specs.declared.script.Line.{Line}
+use Rattle.ct_script.specs.Rules.{IsWithin}
+use Rattle.ct_top.specs.Commands.{room_of, opening_of}
+use Rattle.ct_top.specs.Played.{MayFail, Drains, ByLines, IsPlayed}
+use Rattle.ct_top.proofs.Ranges.{few_events}
+use Rattle.ct_top.proofs.Draining.{played_whole}
+use Rattle.ct_top.proofs.played.play_on.Goals as goal
+
+pub open-requires-clause-events : goal.open-requires-clause-events
+open-requires-clause-events g c =
+    subst (λ (room : Room). events_for room < 4294967296) (sym c.room_of-room.ensures)
+    (few_events c.len.result c.lines.result.now (subst IsWithin (sym c.lines.ensures) c.is_within.ensures))
+
+pub returns-clause-played : goal.returns-clause-played
+returns-clause-played g c =
+    let blocks = length (g.B.Backend.blocks c.args.medium) in
+    let script = c.args.script in
+    let first = c.in_ok-pair.pair in
+    let second = c.play_lines.new.pair in
+    let third = c.drain.new.pair in
+    let room : c.room_of-room.result ≡ room_of blocks script =
+    c.room_of-room.ensures ∙ ap (λ n. room_of n c.lines.result.now) c.len.ensures ∙ ap (room_of blocks) c.lines.ensures in
+    let opening : first.opening ≡ opening_of blocks script = c.in_ok-pair.ensures.opening ∙ ap (λ (r : Room). record (opening_of blocks script) { room = r }) room in
+    let lines : ByLines (opening_of blocks script) (MayFail first.desk.faults second.desk.faults) script [] second.book.journal =
+    subst (λ (journal : List Logged). ByLines (opening_of blocks script) (MayFail first.desk.faults second.desk.faults) script journal second.book.journal) c.in_ok-pair.ensures.empty
+    (subst (λ (ls : List Line). ByLines (opening_of blocks script) (MayFail first.desk.faults second.desk.faults) ls first.book.journal second.book.journal) c.into_lines.ensures.lines
+    (subst (λ (o : Opening). ByLines o (MayFail first.desk.faults second.desk.faults) c.into_lines.result.items first.book.journal second.book.journal) opening c.in_ok-play_lines.ensures.done)) in
+    let drained : Drains (opening_of blocks script) (MayFail second.desk.faults third.desk.faults) second.book.journal third.book.journal =
+    subst (λ (o : Opening). Drains o (MayFail second.desk.faults third.desk.faults) second.book.journal third.book.journal) (c.play_lines.ensures.opening ∙ opening) c.drain.ensures.drained in
+    let whole : IsPlayed (opening_of blocks script) (MayFail 0 third.desk.faults) script third.book.journal =
+    played_whole (opening_of blocks script) script second.book.journal third.book.journal first.desk.faults second.desk.faults third.desk.faults lines drained c.drain.ensures.later in
+    subst (λ f. IsPlayed (opening_of blocks script) (MayFail 0 f) script c.close.result.book.journal) (sym c.close.ensures.faults)
+    (subst (λ (book : BookState). IsPlayed (opening_of blocks script) (MayFail 0 third.desk.faults) script book.journal) (sym c.close.ensures.book) whole)

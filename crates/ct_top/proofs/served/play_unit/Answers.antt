@@ -1,0 +1,30 @@
+use Rattle.std.proofs.Common.{◌≡◌, ℕ, List, length, ap, ◌∙◌, subst}
+use Rattle.std.proofs.lemmas.List.{length-replicate}
+use Rattle.std.specs.Prelude.{replicate}
+use Rattle.ct_machine.specs.declared.act.Opening.{Opening}
+use Rattle.ct_machine.specs.Runs.{replay, IsRun}
+use Rattle.ct_top.specs.Commands.{opening_of}
+use Rattle.ct_top.specs.Played.{MayFail, IsPlayed}
+use Rattle.ct_top.specs.Served.{NoFault}
+use Rattle.ct_top.proofs.Draining.{played_wider, no_fault, at_rest, restricted}
+use Rattle.ct_top.proofs.served.play_unit.Goals as goal
+
+pub returns : goal.returns
+returns c =
+    let script = c.args.script in
+    let end = c.in_ok-lun.field-0 in
+    let journal = end.book.journal in
+    let opening = opening_of c.args.blocks script in
+    let size : length c.in_ok-open.field-0 ≡ c.args.blocks = ap length c.in_ok-open.ensures ∙ length-replicate c.args.blocks (replicate 512 0) in
+    let run : IsRun opening journal = subst (λ n. IsRun (opening_of n script) journal) size c.in_ok-lun.ensures.run in
+    let played : IsPlayed opening NoFault script journal =
+    played_wider opening (MayFail 0 0) NoFault script journal no_fault (subst (λ n. IsPlayed (opening_of n script) (MayFail 0 0) script journal) size c.in_ok-lun.ensures.played) in
+    record {
+      lun = c.in_ok-lun.ensures.lun;
+      played = played;
+      run = run;
+      lawful = c.every_run_is_lawful.ensures opening journal run;
+      legal = c.runs_are_legal.ensures opening journal run (restricted opening journal);
+      rest = at_rest opening NoFault played.last journal played.drained (c.runs_never_stop.ensures opening journal run);
+      disk = subst (λ n. end.medium ≡ (replay (opening_of n script) journal).blocks) size c.in_ok-lun.ensures.disk;
+    }
