@@ -18,7 +18,7 @@ use Rattle.ct_lun.proofs.Turns.{Made}
 use Rattle.ct_lun.proofs.Effects.{stage_begun, stage_waits}
 use Rattle.ct_lun.proofs.Moves.{slot_made}
 
-least_room : (stage : Stage) (operations : ℕ) → 3 ≤ room_at stage operations
+pub least_room : (stage : Stage) (operations : ℕ) → 3 ≤ room_at stage operations
 least_room Waiting operations = omega arith
 least_room (Here done got) operations = omega arith
 least_room Granted operations = omega arith
