@@ -1,5 +1,5 @@
 -- A unit and its book as they are opened, and the room that is left between two calls.
-use Rattle.std.proofs.Common.{◌≡◌, ℕ, ◌+◌, ◌-◌, ◌*◌, ◌<◌, ◌≤◌, List, [], ◌∷◌, length, map, replicate, sum_by, refl, sym, ap, ◌∙◌, arith}
+use Rattle.std.proofs.Common.{◌≡◌, ℕ, ◌<◌, ◌≤◌, List, [], ◌∷◌, length, replicate, sum_by, refl, arith}
 use Rattle.std.proofs.lemmas.List.Sums.{sum_by-cons}
 use Rattle.ct_word.specs.declared.names.LunNo.{LunNo}
 use Rattle.ct_word.specs.declared.names.Room.{Room}
@@ -7,12 +7,12 @@ use Rattle.ct_word.specs.declared.names.Ha.TheVariants as ha
 use Rattle.ct_book.specs.Journals.{KeptWork, BookState}
 use Rattle.ct_book.specs.Kept.{empty_book, events_for}
 use Rattle.ct_exec.specs.Executions.{plan_in}
-use Rattle.ct_machine.specs.States.{Stage, Waiting, Here, Granted, There, Over, Task, State, opened}
+use Rattle.ct_machine.specs.States.{opened}
 use Rattle.ct_lun.specs.declared.slot.Slot.{Slot}
 use Rattle.ct_lun.specs.Desk.{Desk, opened_desk}
 use Rattle.ct_lun.specs.States.{task_in, tasks_in, state_of}
-use Rattle.ct_lun.specs.Agreement.{Agrees, AgreesWith}
-use Rattle.ct_lun.specs.Rooms.{room_at, task_room, room_of}
+use Rattle.ct_lun.specs.Agreement.{AgreesWith}
+use Rattle.ct_lun.specs.Rooms.{task_room, room_of}
 use Rattle.ct_lun.proofs.Spent.{least_room}
 
 pub opened_agrees : (lun : LunNo) (depth pool : ℕ) (blocks : List (List ℕ)) (faults : ℕ) (room : Room) → length blocks ≤ 65536 → AgreesWith (opened_desk lun depth pool blocks faults) (empty_book room)

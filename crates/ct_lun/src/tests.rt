@@ -7,7 +7,7 @@ use ct_book::{Book, Cmd};
 use ct_cdb::Attr2;
 use ct_machine::Answer;
 use ct_medium::{Backend, Ram};
-use ct_sense::{Sense, Status};
+use ct_sense::Status;
 use ct_word::{Block, Bytes, CmdNo, Failed, LunNo, Nexus, Room, Tag};
 use std::alloc::Global;
 use std::test::Fail;
@@ -80,31 +80,81 @@ fn open<B: Backend>(alloc: Global, depth: u32, pool: u32, medium: B) -> Result<(
     Ok((lun, book))
 }
 
-// The status of the reply to a command, its sense data and how many bytes of data it has.
-fn reply(book: &Book, number: u32) -> Option<(Status, Option<Sense>, usize)> {
-    match book.reply(CmdNo::new(number)) {
-        Some(reply) => Some((reply.status, reply.sense, reply.body.len())),
-        None => None,
+// How many of these commands enter the task set, each with its tag, its CDB and its data-out.
+fn arrive_all<B: Backend>(
+    alloc: Global,
+    lun: &mut Lun<B>,
+    book: &mut Book,
+    commands: &[(u32, &[u8], &[u8])],
+) -> Result<u8, Fail>
+    requires { AgreesWith lun.old book.old }
+    ensures { AgreesWith lun.new book.new }
+{
+    let mut entered = 0u8;
+    for (tag, cdb, out) in commands {
+        if arrive(alloc, lun, book, *tag, cdb, out)? {
+            entered = entered.saturating_add(1);
+        }
     }
+    Ok(entered)
+}
+
+// Each step of a command by so many blocks comes to this.
+fn steps_are<B: Backend>(lun: &mut Lun<B>, book: &mut Book, steps: &[(u32, u32, Stepped)]) -> bool
+    requires { AgreesWith lun.old book.old }
+    ensures { AgreesWith lun.new book.new }
+{
+    for (number, blocks, expected) in steps {
+        if step(lun, book, *number, *blocks) != *expected {
+            return false;
+        }
+    }
+    true
+}
+
+// The command has a reply with this status and so many bytes of data.
+fn is_answered(book: &Book, number: u32, status: Status, size: usize) -> bool {
+    match book.reply(CmdNo::new(number)) {
+        Some(reply) => reply.status == status && reply.body.len() == size,
+        None => false,
+    }
+}
+
+fn replies_are(book: &Book, replies: &[(u32, Status, usize)]) -> bool {
+    for (number, status, size) in replies {
+        if !is_answered(book, *number, *status, *size) {
+            return false;
+        }
+    }
+    true
 }
 
 #[test]
 fn overlapping_commands_wait(rt: HostRuntime) -> Result<(), Fail> {
     let alloc = rt.alloc();
     let (mut lun, mut book) = open(alloc, 4, 8, Ram::open(alloc, 8)?)?;
-    assert!(rt; arrive(alloc, &mut lun, &mut book, 1, WRITE_AT_0, &[5; 1024])?);
-    assert!(rt; arrive(alloc, &mut lun, &mut book, 2, READ_AT_1, &[])?);
-    assert!(rt; !arrive(alloc, &mut lun, &mut book, 2, READ_AT_1, &[])?);
+    let commands: [(u32, &[u8], &[u8]); 3] = [
+        (1, WRITE_AT_0, &[5; 1024]),
+        (2, READ_AT_1, &[]),
+        (2, READ_AT_1, &[]),
+    ];
+    assert_eq!(rt; arrive_all(alloc, &mut lun, &mut book, &commands)?, 2);
     let first = CmdNo::new(1);
-    assert_eq!(rt; step(&mut lun, &mut book, 2, 1), Stepped::Blocked(first));
-    assert_eq!(rt; step(&mut lun, &mut book, 1, 1), Stepped::Moved);
-    assert_eq!(rt; step(&mut lun, &mut book, 2, 1), Stepped::Blocked(first));
-    assert_eq!(rt; step(&mut lun, &mut book, 1, 1), Stepped::Ended);
-    assert_eq!(rt; step(&mut lun, &mut book, 1, 1), Stepped::Gone);
-    assert_eq!(rt; next(&mut lun, &mut book), Some(2));
-    assert_eq!(rt; next(&mut lun, &mut book), None);
-    assert_eq!(rt; reply(&book, 2), Some((Status::Good, None, 1024)));
-    assert_eq!(rt; book.len(), 3 + 3 + 4 + 3);
+    let steps = [
+        (2, 1, Stepped::Blocked(first)),
+        (1, 1, Stepped::Moved),
+        (2, 1, Stepped::Blocked(first)),
+        (1, 1, Stepped::Ended),
+        (1, 1, Stepped::Gone),
+        (2, 16, Stepped::Ended),
+    ];
+    assert!(rt; steps_are(&mut lun, &mut book, &steps));
+    let replies = [
+        (1, Status::Good, 0),
+        (2, Status::Good, 1024),
+        (3, Status::CheckCondition, 0),
+    ];
+    assert!(rt; replies_are(&book, &replies));
     Ok(())
 }
 
@@ -112,22 +162,19 @@ fn overlapping_commands_wait(rt: HostRuntime) -> Result<(), Fail> {
 fn turns_commands_away(rt: HostRuntime) -> Result<(), Fail> {
     let alloc = rt.alloc();
     let (mut lun, mut book) = open(alloc, 2, 3, Ram::open(alloc, 8)?)?;
-    assert!(rt; arrive(alloc, &mut lun, &mut book, 1, WRITE_AT_0, &[5; 1024])?);
-    assert!(rt; !arrive(alloc, &mut lun, &mut book, 2, READ_AT_1, &[])?);
-    assert!(rt; arrive(alloc, &mut lun, &mut book, 3, b"", &[])?);
-    assert!(rt; !arrive(alloc, &mut lun, &mut book, 4, b"", &[])?);
-    assert_eq!(rt; reply(&book, 2), Some((Status::Busy, None, 0)));
-    assert_eq!(rt; reply(&book, 4), Some((Status::TaskSetFull, None, 0)));
-    assert_eq!(rt; step(&mut lun, &mut book, 3, 1), Stepped::Ended);
-    let sense = Sense::new(5, 0x20, 0);
-    assert_eq!(rt;
-        reply(&book, 3),
-        Some((Status::CheckCondition, Some(sense), 0))
-    );
+    let commands: [(u32, &[u8], &[u8]); 4] = [
+        (1, WRITE_AT_0, &[5; 1024]),
+        (2, READ_AT_1, &[]),
+        (3, b"", &[]),
+        (4, b"", &[]),
+    ];
+    assert_eq!(rt; arrive_all(alloc, &mut lun, &mut book, &commands)?, 2);
+    let replies = [(2, Status::Busy, 0), (4, Status::TaskSetFull, 0)];
+    assert!(rt; replies_are(&book, &replies));
     Ok(())
 }
 
-// A medium that fails once, at its first call.
+// A medium that fails at its first call.
 #[derive(Drop)]
 struct Failing {
     ram: Ram,
@@ -163,25 +210,14 @@ impl Backend for Failing {
 #[test]
 fn medium_fails(rt: HostRuntime) -> Result<(), Fail> {
     let alloc = rt.alloc();
-    let medium = Failing {
-        ram: Ram::open(alloc, 8)?,
-        failed: false,
-    };
+    let ram = Ram::open(alloc, 8)?;
+    let medium = Failing { ram, failed: false };
     let (mut lun, mut book) = open(alloc, 2, 4, medium)?;
-    assert!(rt; arrive(alloc, &mut lun, &mut book, 1, WRITE_AT_0, &[5; 1024])?);
-    assert!(rt; arrive(alloc, &mut lun, &mut book, 2, READ_AT_1, &[])?);
+    let commands: [(u32, &[u8], &[u8]); 2] = [(1, WRITE_AT_0, &[5; 1024]), (2, READ_AT_1, &[])];
+    assert_eq!(rt; arrive_all(alloc, &mut lun, &mut book, &commands)?, 2);
     assert_eq!(rt; next(&mut lun, &mut book), Some(1));
-    let sense = Sense {
-        key: 3,
-        asc: 0x0c,
-        ascq: 0,
-        info: Some(0),
-    };
-    assert_eq!(rt;
-        reply(&book, 1),
-        Some((Status::CheckCondition, Some(sense), 0))
-    );
     assert_eq!(rt; next(&mut lun, &mut book), Some(2));
-    assert_eq!(rt; reply(&book, 2), Some((Status::Good, None, 1024)));
+    let replies = [(1, Status::CheckCondition, 0), (2, Status::Good, 1024)];
+    assert!(rt; replies_are(&book, &replies));
     Ok(())
 }
