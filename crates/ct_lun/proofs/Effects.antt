@@ -107,7 +107,7 @@ over_told : (p : BookState) (number : ℕ) (reply : Reply) (e : Event) → numbe
 over_told p number reply e unanswered by_end = ap (λ (o : Option Reply). record { event = event.Ended number; work = None; reply = o }) (reply_kept p number reply unanswered)
 over_told p number reply e unanswered (by_medium puts) = ap (λ (o : Option Reply). record { event = event.Cut number puts Medium false; work = None; reply = o }) (reply_kept p number reply unanswered)
 
-after_one : (s : State) (e : Event) (reply : Reply) → after_events s (replied e reply ∷ []) ≡ after_event e None s
+pub after_one : (s : State) (e : Event) (reply : Reply) → after_events s (replied e reply ∷ []) ≡ after_event e None s
 unfolding after
 after_one s e reply = refl
 
@@ -181,7 +181,7 @@ leaves_control d d' at control l = record {
 
 -- a waiting command begins
 
-after_told : (s : State) (e : Event) → after_events s (told e ∷ []) ≡ after_event e None s
+pub after_told : (s : State) (e : Event) → after_events s (told e ∷ []) ≡ after_event e None s
 unfolding after
 after_told s e = refl
 

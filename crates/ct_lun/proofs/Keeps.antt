@@ -72,7 +72,7 @@ held_found d p at a h = ap (λ (s : TaskSet). command_of (slot_at d.slots at).no
 
 -- the task set, of which three parts are known
 
-set_is : (s : TaskSet) (commands : List HeldCommand) (unrestricted : Bool) → s.commands ≡ commands → s.unrestricted ≡ unrestricted → s ≡ record { commands = commands; depth = s.depth; unrestricted = unrestricted }
+pub set_is : (s : TaskSet) (commands : List HeldCommand) (unrestricted : Bool) → s.commands ≡ commands → s.unrestricted ≡ unrestricted → s ≡ record { commands = commands; depth = s.depth; unrestricted = unrestricted }
 set_is s commands unrestricted h k = rw (← h, ← k) refl
 
 pub get_map : {A B : Type 0} (f : A → B) (xs : List A) (at : ℕ) (x : A) → slice_get xs at ≡ Some x → slice_get (map f xs) at ≡ Some (f x)

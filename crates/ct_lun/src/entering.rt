@@ -27,6 +27,51 @@ use ct_sense::{Status, key};
 use ct_word::{CmdNo, Nexus, Tag};
 
 impl<B: Backend> Lun<B> {
+    /// A command of the book enters the task set, or is refused.
+    pub fn enter(&mut self, no: CmdNo, book: &mut Book) -> Entered
+        requires agrees { AgreesWith self.old book.old }
+        requires command { IsCommandNo book.old no }
+        requires fresh { IsNone (slot_of no self.old.slots) }
+        requires unanswered { numbered no book.old.replies ≡ Some None }
+        requires untaken { numbered no book.old.untaken ≡ Some true }
+        requires room { 0 < book.old.spare }
+        ensures answer { result ≡ entered_as (turned_cause (state_of self.old book.old) (command_in book.old.works no)) }
+        ensures wrote { Wrote self.old self.new book.old book.new (entering no (command_in book.old.works no) (state_of self.old book.old)).journal }
+        ensures agrees { AgreesWith self.new book.new }
+        ensures faults { self.new.faults ≡ self.old.faults }
+    {
+        let blocks = self.blocks();
+        let command = command(no, book);
+        let (nexus, tag) = (command.nexus, command.tag);
+        let plan = plan(command, blocks);
+        let held = held(command, blocks);
+        match self.admit(nexus, tag, plan.need()) {
+            Ok(lease) => {
+                let body = book.take_body(no);
+                let task = Task {
+                    plan,
+                    lease,
+                    body,
+                    done: 0,
+                };
+                let slot = Slot {
+                    no,
+                    nexus,
+                    tag,
+                    begun: false,
+                    task,
+                };
+                self.put_in(slot, held);
+                book.push(Event::Enter { no });
+                Entered::Queued
+            }
+            Err(refusal) => {
+                turn_away(no, refusal, book);
+                Entered::Turned
+            }
+        }
+    }
+
     // A lease for a command that may enter, or why it is refused.
     fn admit(&mut self, nexus: Nexus, tag: Tag, need: u32) -> Result<Lease, Refusal>
         requires out { leases_out self.old.pool ≡ length self.old.set.commands }
