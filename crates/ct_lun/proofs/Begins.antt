@@ -117,16 +117,16 @@ going_turn : List KeptWork → Slot → State → ℕ → Option ℕ → Turn
 going_turn works slot s count fault = moving_from (task_in works slot) count fault slot.task.done slot.task.body.items s
 
 begun_turn : (d d1 : Desk) (p p1 : BookState) (at count : ℕ) (fault : Option ℕ) → Agrees d p → at < length d.slots → (slot_at d.slots at).begun ≡ false → d1.slots ≡ slice_set d.slots at (record (slot_at d.slots at) { begun = true })
-    → Wrote d d1 p p1 (told (event.Begun (slot_at d.slots at).no) ∷ [])
+    → Wrote d d1 p p1 (told (event.Begun (slot_at d.slots at).no) ∷ []) → p1.works ≡ p.works
     → (going d1 p1 at count fault).turn ≡ moving_from (task_in p.works (slot_at d.slots at)) count fault 0 [] (says (event.Begun (slot_at d.slots at).no) (state_of d p)).state
 unfolding going_turn
-begun_turn d d1 p p1 at count fault a h waits slots w =
+begun_turn d d1 p p1 at count fault a h waits slots w same_works =
     let slot = slot_at d.slots at in
     let slot1 : Slot = record slot { begun = true } in
     let here : slot_at d1.slots at ≡ slot1 = ap (λ (xs : List Slot). slot_at xs at) slots ∙ get_or-set_same d.slots at slot1 blank h in
     let s1 : State = (says (event.Begun slot.no) (state_of d p)).state in
     let fresh : IsFresh (command_in p.works slot.no).cdb slot = (slot_agrees d p at a h).waits waits in
-    ap (λ (works : List KeptWork). going_turn works (slot_at d1.slots at) (state_of d1 p1) count fault) w.works
+    ap (λ (works : List KeptWork). going_turn works (slot_at d1.slots at) (state_of d1 p1) count fault) same_works
     ∙ ap (λ (x : Slot). going_turn p.works x (state_of d1 p1) count fault) here
     ∙ ap (λ (s : State). going_turn p.works slot1 s count fault) w.state
     ∙ moving_same (task_in p.works slot) (Here slot.task.done slot.task.body.items) count fault slot.task.done slot.task.body.items s1
@@ -141,17 +141,17 @@ begin_turn d p at count fault (operation ∷ plan) some = refl
 pub begin_does : (d d1 d' : Desk) (p p1 p' : BookState) (at count : ℕ) (step : Stepped) → AgreesWith d p → at < length d.slots → (slot_at d.slots at).begun ≡ false
     → refusal_of d.control (length d.blocks) (command_in p.works (slot_at d.slots at).no) ≡ None → 0 < length (plan_in (length d.blocks) (command_in p.works (slot_at d.slots at).no))
     → d1.slots ≡ slice_set d.slots at (record (slot_at d.slots at) { begun = true }) → d1.faults ≡ d.faults
-    → Wrote d d1 p p1 (told (event.Begun (slot_at d.slots at).no) ∷ []) → Spends d d1 p p1 1 → Does d1 d' p1 p' (going d1 p1 at count) (said (slot_at d.slots at).no (state_of d1 p1) step)
+    → Wrote d d1 p p1 (told (event.Begun (slot_at d.slots at).no) ∷ []) → p1.works ≡ p.works → Spends d d1 p p1 1 → Does d1 d' p1 p' (going d1 p1 at count) (said (slot_at d.slots at).no (state_of d1 p1) step)
     → Does d d' p p' (beginning_by d p at count) (said (slot_at d.slots at).no (state_of d p) step)
-begin_does d d1 d' p p1 p' at count step a h waits unrefused some slots faults w spends x =
+begin_does d d1 d' p p1 p' at count step a h waits unrefused some slots faults w same_works spends x =
     let slot = slot_at d.slots at in
     let task = task_in p.works slot in
     let s = state_of d p in
     let turn = λ (fault : Option ℕ).
     ap (λ (r : Option Reply). beginning r (plan_in (length d.blocks) (command_in p.works slot.no)) task count fault s) unrefused ∙ begin_turn d p at count fault (plan_in (length d.blocks) (command_in p.works slot.no)) some in
-    let moves = λ (fault : Option ℕ). begun_turn d d1 p p1 at count fault a.base h waits slots w in
+    let moves = λ (fault : Option ℕ). begun_turn d d1 p p1 at count fault a.base h waits slots w same_works in
     let number : (slot_at d1.slots at).no ≡ slot.no = ap (λ (xs : List Slot). (slot_at xs at).no) slots ∙ ap (λ (y : Slot). y.no) (get_or-set_same d.slots at (record slot { begun = true }) blank h) in
-    let arrivals : (state_of d1 p1).arrivals ≡ s.arrivals = ap (λ (works : List KeptWork). map at_a works) w.works in
+    let arrivals : (state_of d1 p1).arrivals ≡ s.arrivals = ap (λ (works : List KeptWork). map at_a works) same_works in
     does_then d d1 d' p p1 p' (told (event.Begun slot.no) ∷ []) (going d1 p1 at count) (beginning_by d p at count) (said slot.no (state_of d1 p1) step) (said slot.no s step) w spends x faults
     (λ fault. ap (λ (t : Turn). t.journal) (turn fault) ∙ ap (λ (t : Turn). (told (event.Begun slot.no) ∷ []) ++ t.journal) (sym (moves fault)))
     (λ fault told_before.

@@ -52,7 +52,6 @@ does_from d d' p p' outcome fault es said w spends left journal answered cause l
   state = w.state ∙ ap (λ (j : List Logged). after_events (state_of d p) j) (sym journal);
   agrees = record { base = w.agrees; left = left };
   spare = rw journal w.spare;
-  works = w.works;
   room = rw journal spends;
   cause = cause;
   later = later;
@@ -61,7 +60,7 @@ does_from d d' p p' outcome fault es said w spends left journal answered cause l
 -- nothing was done
 pub does_nothing : (d : Desk) (p : BookState) (outcome : Option ℕ → Done) (said : Answer) → AgreesWith d p → (outcome None).turn.journal ≡ [] → (outcome None).answer ≡ said → Does d d p p outcome said
 does_nothing d p outcome said a journal answered =
-    does_from d d p p outcome None [] said (record { journal = sym (append-nil p.journal); state = refl; agrees = a.base; spare = omega arith; works = refl }) (omega arith) a.left journal answered (λ x. absurd (false≢true x)) (omega arith)
+    does_from d d p p outcome None [] said (record { journal = sym (append-nil p.journal); state = refl; agrees = a.base; spare = omega arith }) (omega arith) a.left journal answered (λ x. absurd (false≢true x)) (omega arith)
 
 -- the same, where the machine does the same
 pub does_same : (d d' : Desk) (p p' : BookState) (outcome outcome' : Option ℕ → Done) (said : Answer) → ((fault : Option ℕ) → outcome fault ≡ outcome' fault) → Does d d' p p' outcome said → Does d d' p p' outcome' said
@@ -72,7 +71,6 @@ does_same d d' p p' outcome outcome' said same x = record {
   state = x.state ∙ ap (λ (o : Done). after_events (state_of d p) o.turn.journal) (same x.fault);
   agrees = x.agrees;
   spare = rw (← same x.fault) x.spare;
-  works = x.works;
   room = rw (← same x.fault) x.room;
   cause = x.cause;
   later = x.later;
@@ -82,7 +80,7 @@ does_same d d' p p' outcome outcome' said same x = record {
 pub does_then : (d d1 d' : Desk) (p p1 p' : BookState) (es : List Logged) (outcome outcome' : Option ℕ → Done) (said said' : Answer) → Wrote d d1 p p1 es → Spends d d1 p p1 (length es) → Does d1 d' p1 p' outcome said → d1.faults ≡ d.faults
     → ((fault : Option ℕ) → (outcome' fault).turn.journal ≡ es ++ (outcome fault).turn.journal) → ((fault : Option ℕ) → (outcome fault).answer ≡ said → (outcome' fault).answer ≡ said') → Does d d' p p' outcome' said'
 does_then d d1 d' p p1 p' es outcome outcome' said said' w spends x same journal answered =
-    let second : Wrote d1 d' p1 p' (outcome x.fault).turn.journal = record { journal = x.journal; state = x.state; agrees = x.agrees.base; spare = x.spare; works = x.works } in
+    let second : Wrote d1 d' p1 p' (outcome x.fault).turn.journal = record { journal = x.journal; state = x.state; agrees = x.agrees.base; spare = x.spare } in
     does_from d d' p p' outcome' x.fault (es ++ (outcome x.fault).turn.journal) said' (wrote_then d d1 d' p p1 p' es (outcome x.fault).turn.journal w second)
     (omega (arith, spends, x.room, length-append es (outcome x.fault).turn.journal))
     x.agrees.left (journal x.fault) (answered x.fault (sym x.answer)) (λ f. omega (arith, x.cause f, same)) (omega (arith, x.later, same))

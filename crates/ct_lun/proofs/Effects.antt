@@ -46,7 +46,6 @@ wrote_then d d' d2 p p' p2 es fs a b = record {
   state = b.state ∙ ap (λ (s : State). after_events s fs) a.state ∙ sym (after_append (state_of d p) es fs);
   agrees = b.agrees;
   spare = omega (arith, a.spare, b.spare, length-append es fs);
-  works = b.works ∙ a.works;
 }
 
 -- every work came at A, so nothing is sent
@@ -123,7 +122,6 @@ over_wrote d d' p p' at reply e a h begun over room l book =
       state = left_state d d' p (closed_book p slot.no reply e) at a h l refl refl refl refl ∙ sym (over_state d p at e a h begun over) ∙ sym (after_one (state_of d p) e reply);
       agrees = agrees_left d d' p (closed_book p slot.no reply e) at reply a h l refl refl;
       spare = omega arith;
-      works = refl;
     })
 
 -- a waiting command is executed at once
@@ -165,7 +163,6 @@ at_once_wrote d d' p p' at control reply a h waits room e l book =
       state = left_state (with_control d control) d' p ended at changed h l refl refl refl refl ∙ sym effect ∙ sym (after_one (state_of d p) (event.Ended slot.no) reply);
       agrees = agrees_left (with_control d control) d' p ended at reply changed h l refl refl;
       spare = omega arith;
-      works = refl;
     })
 
 -- the control changes before a command leaves, or behind it
@@ -207,5 +204,4 @@ begun_wrote d p at a h waits room =
           ∙ sym (after_told (state_of d p) (event.Begun slot.no));
       agrees = agrees_begun d p (with_event p (event.Begun slot.no)) at a h waits refl refl;
       spare = omega arith;
-      works = refl;
     }

@@ -133,7 +133,6 @@ turned_wrote d p p' number reply a command none unanswered room book =
         contexts = a.contexts;
       };
       spare = omega arith;
-      works = refl;
     })
 
 -- what a task needs so that it can begin
@@ -222,13 +221,13 @@ length_placed attr new slots = go (is_head attr)
     go true = length-insert slots (waiting_from slots) new (waiting_within slots)
     go false = omega (arith, length-append slots (new ∷ []))
 
-numbered_map : {A B : Type 0} (f : A → B) (number : ℕ) (xs : List A) (x : A) → numbered number xs ≡ Some x → numbered number (map f xs) ≡ Some (f x)
+pub numbered_map : {A B : Type 0} (f : A → B) (number : ℕ) (xs : List A) (x : A) → numbered number xs ≡ Some x → numbered number (map f xs) ≡ Some (f x)
 numbered_map f zero xs x found = cc
 numbered_map f (suc before) xs x found = get_map f xs before x found
 
 -- a command enters
 
-entered_state : (d : Desk) (p : BookState) (number : ℕ) → IsCommandNo p number → after_event (event.Enter number) None (state_of d p) ≡ record (state_of d p) { tasks = queued (new_task number A (command_in p.works number)) (state_of d p).tasks }
+pub entered_state : (d : Desk) (p : BookState) (number : ℕ) → IsCommandNo p number → after_event (event.Enter number) None (state_of d p) ≡ record (state_of d p) { tasks = queued (new_task number A (command_in p.works number)) (state_of d p).tasks }
 entered_state d p number command = ap (λ (found : Option Arrival). after_enter number found (state_of d p)) (numbered_map at_a number p.works (work.Cmd (command_in p.works number)) (command_known p number command))
 
 -- what stands in a new slot
@@ -293,7 +292,6 @@ entered_wrote d d' p p' number slot held a command none unanswered room entry ho
         contexts = t.contexts ∙ a.contexts;
       };
       spare = omega arith;
-      works = refl;
     })
 
 pub entry_fresh : (d : Desk) (p : BookState) (number : ℕ) → Agrees d p → IsNone (slot_of number d.slots) → IsNone (command_of number d.set.commands)

@@ -11,3 +11,4 @@ pub mod Overs
 pub mod Begins
 pub mod Steps
 pub mod Enters
+pub mod Arrivals

@@ -124,5 +124,4 @@ moved_wrote d d' p p' at count piece a h begun g room book =
       state = moved_state d d' p at count piece a h begun g;
       agrees = agrees_moved d d' p (moved_book p (slot_at d.slots at).no piece.moved) at count piece a h begun g refl refl;
       spare = omega (arith, moved_few (slot_at d.slots at).no piece.moved);
-      works = refl;
     })

@@ -71,7 +71,6 @@ pub record Wrote (desk desk' : Desk) (book book' : BookState) (events : List Log
   pub state : state_of desk' book' ≡ after_events (state_of desk book) events
   pub agrees : Agrees desk' book'
   pub spare : book'.spare + length events ≡ book.spare
-  pub works : book'.works ≡ book.works
 
 -- an event that counts alone, and one with a reply
 abbrev pub told : Event → Logged
@@ -108,7 +107,6 @@ pub record Does (desk desk' : Desk) (book book' : BookState) (outcome : Option �
   pub state : state_of desk' book' ≡ after_events (state_of desk book) (outcome fault).turn.journal
   pub agrees : AgreesWith desk' book'
   pub spare : book'.spare + length (outcome fault).turn.journal ≡ book.spare
-  pub works : book'.works ≡ book.works
   pub room : room_of (state_of desk' book') + length (outcome fault).turn.journal ≤ room_of (state_of desk book)
   pub cause : IsSome fault → desk.faults < desk'.faults
   pub later : desk.faults ≤ desk'.faults

@@ -5,28 +5,46 @@ ghost use Rattle.ct_pool.specs.Leases.{Takes, leases_out};
 ghost use Rattle.ct_book.specs.Journals.{numbered, with_event, with_reply, without_body};
 ghost use Rattle.ct_book.specs.Kept.{IsCommandNo};
 ghost use Rattle.ct_exec.specs.Refusals.{refused_reply};
-ghost use Rattle.ct_machine.specs.Acts.{entering, turned_cause};
+ghost use Rattle.ct_machine.specs.Acts.{entering, arriving, turned_cause};
 ghost use Rattle.ct_lun.specs.Desk.{Desk, slot_of};
 ghost use Rattle.ct_lun.specs.Overlaps.{cause_by};
 ghost use Rattle.ct_lun.specs.States.{command_in, state_of};
 ghost use Rattle.ct_lun.specs.Agreement.{AgreesWith};
-ghost use Rattle.ct_lun.specs.Calls.{Wrote, entered_as};
+ghost use Rattle.ct_lun.specs.Calls.{Wrote, Does, entered_as};
 
 use crate::mechanics::{command, held};
 use crate::said::Entered;
 use crate::search::overlaps;
 use crate::slot::Slot;
 use crate::unit::Lun;
-use ct_book::{Book, Event};
+use ct_book::{Book, Cmd, Event, Work};
 use ct_exec::{Refusal, check_condition, plan};
+use ct_machine::Answer;
 use ct_matrix::Waits;
 use ct_medium::Backend;
 use ct_plan::Task;
 use ct_pool::Lease;
 use ct_sense::{Status, key};
-use ct_word::{CmdNo, Nexus, Tag};
+use ct_word::{CmdNo, Nexus, Node, Tag};
 
 impl<B: Backend> Lun<B> {
+    /// A command comes at node A: it enters the task set or is refused, or there is no room for it.
+    pub fn arrive(&mut self, cmd: Cmd, book: &mut Book) -> Answer
+        requires agrees { AgreesWith self.old book.old }
+        requires room { 0 < book.old.commands → 2 ≤ book.old.spare }
+        ensures { Does self.old self.new book.old book.new (λ _. arriving Node.A (Work.Cmd cmd) (state_of self.old book.old)) result }
+    {
+        let pieces = plan(cmd.command(), self.blocks()).length();
+        let _events = book.len();
+        match book.add(Node::A, Work::Cmd(cmd), pieces) {
+            Ok(no) => match self.enter(no, book) {
+                Entered::Queued => Answer::Queued(no),
+                Entered::Turned => Answer::Turned(no),
+            },
+            Err(work) => Answer::NoRoom(work),
+        }
+    }
+
     /// A command of the book enters the task set, or is refused.
     pub fn enter(&mut self, no: CmdNo, book: &mut Book) -> Entered
         requires agrees { AgreesWith self.old book.old }

@@ -120,6 +120,7 @@ impl<B: Backend> Lun<B> {
           slots = slice_set self.old.slots at (record (slot_at self.old.slots at) { begun = true });
         } }
         ensures wrote { Wrote self.old self.new book.old book.new (told (Event.Begun (slot_at self.old.slots at).no) ∷ []) }
+        ensures works { book.new.works ≡ book.old.works }
         ensures spends { Spends self.old self.new book.old book.new 1 }
     {
         let no = self.slot(at).no;

@@ -25,5 +25,5 @@ returns g c =
     let some : length (slot_at old.slots at).task.plan.operations ≡ 0 → ⊥ = λ e. c.if-length-eq0.false (c.length.ensures ∙ ap (λ (s : Slot). length s.task.plan.operations) c.slot.ensures ∙ e) in
     let number : (slot_at mid.slots at).no ≡ (slot_at old.slots at).no = ap (λ (s : Slot). s.no) (begun_slot old mid at c.requires.within slots) in
     begin_does old mid c.move_on.new.self c.args.book.now c.start.new.book c.move_on.new.book at c.args.blocks c.move_on.result c.requires.agrees c.requires.within c.requires.waits c.requires.unrefused
-    (planned old c.args.book.now at c.requires.agrees.base c.requires.within some) slots (ap (λ (d : Desk). d.faults) c.start.ensures.after) c.start.ensures.wrote c.start.ensures.spends
+    (planned old c.args.book.now at c.requires.agrees.base c.requires.within some) slots (ap (λ (d : Desk). d.faults) c.start.ensures.after) c.start.ensures.wrote c.start.ensures.works c.start.ensures.spends
     (subst (λ (n : ℕ). Does mid c.move_on.new.self c.start.new.book c.move_on.new.book (going mid c.start.new.book at c.args.blocks) (said n (state_of mid c.start.new.book) c.move_on.result)) number c.move_on.ensures)
