@@ -1,0 +1,5 @@
+mod Events
+mod Rooms
+mod Steps
+mod Acted
+mod Opened

@@ -1,0 +1,8 @@
+//! One logical unit with its two nodes and its journal: each act does what the written machine does. At this stage
+//! there is one node, and no task management function.
+#![tactic(auto)]
+
+mod pair;
+
+pub use ct_machine::{Act, Answer, Opening};
+pub use pair::{End, Pair};
