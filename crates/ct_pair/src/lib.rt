@@ -6,3 +6,6 @@ mod pair;
 
 pub use ct_machine::{Act, Answer, Opening};
 pub use pair::{End, Pair};
+
+#[cfg(test)]
+mod tests;

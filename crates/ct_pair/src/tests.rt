@@ -1,0 +1,282 @@
+ghost use Rattle.std.specs.Prelude.{◌≡◌, ◌≤◌, IfOk, is_none, true, false};
+ghost use Rattle.std.specs.Bool.{OnTrue, OnFalse};
+ghost use Rattle.ct_word.specs.Nexuses.{IsNexus};
+
+use super::*;
+use ct_book::{Book, Cmd, Event, Why, Work};
+use ct_cdb::Attr2;
+use ct_medium::{Backend, Ram};
+use ct_tmf::{Ask, Function};
+use ct_word::{Block, Bytes, CmdNo, Failed, Ha, LunNo, Nexus, NoMemory, Node, Room, Tag};
+use std::alloc::Global;
+use std::test::Fail;
+
+const NEXUS: Nexus = Nexus { port: 1, init: 2 };
+
+const READ_NOTHING: &[u8] = b"\x28\0\0\0\0\x01\0\0\0\0";
+
+const WRITE_TWO: &[u8] = b"\x2a\0\0\0\0\0\0\0\x02\0";
+
+const WRITE_TWO_BEHIND: &[u8] = b"\x2a\0\0\0\0\x01\0\0\x02\0";
+
+const READ_TWO_LOW: &[u8] = b"\x28\0\0\0\0\0\0\0\x02\0";
+
+const READ_TWO: &[u8] = b"\x28\0\0\0\0\x01\0\0\x02\0";
+
+const ROOM: Room = Room {
+    commands: 4,
+    functions: 0,
+    pieces: 6,
+};
+
+// An answer without what it hands back.
+#[derive(Clone, Copy, Debug, PartialEq, Eq)]
+enum Said {
+    Queued(u32),
+    Turned(u32),
+    NoRoom(u32),
+    Moved(u32),
+    Ended(u32, u32),
+    Blocked(u32),
+    Gone,
+    Nothing,
+    Idle,
+    Other,
+}
+
+fn plain(answer: Answer) -> Said {
+    match answer {
+        Answer::Queued(no) => Said::Queued(no.number()),
+        Answer::Turned(no) => Said::Turned(no.number()),
+        Answer::NoRoom(work) => Said::NoRoom(name(&work)),
+        Answer::Moved(no) => Said::Moved(no.number()),
+        Answer::Ended(no, line) => Said::Ended(no.number(), line),
+        Answer::Blocked(by) => Said::Blocked(by.number()),
+        Answer::Gone => Said::Gone,
+        Answer::Nothing => Said::Nothing,
+        Answer::Idle => Said::Idle,
+        _ => Said::Other,
+    }
+}
+
+// The tag of a command, or the line of a function, that was handed back.
+fn name(work: &Work<Cmd>) -> u32 {
+    match work {
+        Work::Cmd(cmd) => cmd.command().tag.0,
+        Work::Ask(ask) => ask.line,
+    }
+}
+
+// A command of line 7 comes.
+fn arrive<B: Backend>(
+    alloc: Global,
+    pair: &mut Pair<B>,
+    tag: u32,
+    cdb: &[u8],
+    out: &[u8],
+) -> Result<Said, Fail> {
+    let out = Bytes::from_vec(out.to_vec(alloc)?);
+    let cmd = Cmd::new(alloc, 7, NEXUS, 1, Tag(tag), Attr2::Simple, cdb, out)?;
+    Ok(plain(pair.act(Act::Arrive(Node::A, Work::Cmd(cmd)))))
+}
+
+fn step<B: Backend>(pair: &mut Pair<B>, no: u32, blocks: u32) -> Said
+    requires { 1 ≤ blocks }
+{
+    plain(pair.act(Act::Step(CmdNo::new(no), blocks)))
+}
+
+fn next<B: Backend>(pair: &mut Pair<B>) -> Said {
+    plain(pair.act(Act::Next(1)))
+}
+
+// The byte that each block of the data of a command's reply begins with, up to two blocks.
+fn data<B: Backend>(pair: &Pair<B>, no: u32) -> (usize, u8, u8) {
+    match pair.book().reply(CmdNo::new(no)) {
+        Some(reply) => {
+            let body = reply.body.as_slice();
+            let first = *body.get(0).unwrap_or(&0);
+            let second = *body.get(512).unwrap_or(&0);
+            (body.len(), first, second)
+        }
+        None => (0, 0, 0),
+    }
+}
+
+// A command without block operations, and what finds no room behind it.
+fn one_command<B: Backend>(alloc: Global, pair: &mut Pair<B>) -> Result<[Said; 7], Fail> {
+    let first = arrive(alloc, pair, 1, READ_NOTHING, &[])?;
+    let second = arrive(alloc, pair, 2, READ_NOTHING, &[])?;
+    let ask = Ask {
+        line: 9,
+        nexus: NEXUS,
+        function: Function::LunReset,
+    };
+    let function = plain(pair.act(Act::Arrive(Node::A, Work::Ask(ask))));
+    let gone = step(pair, 2, 1);
+    let ended = step(pair, 1, 1);
+    let idle = next(pair);
+    let nothing = plain(pair.act(Act::Deliver(Node::A)));
+    Ok([first, second, function, gone, ended, idle, nothing])
+}
+
+#[test]
+fn has_room_for_one_command(rt: HostRuntime) -> Result<(), Fail> {
+    let alloc = rt.alloc();
+    let room = Room {
+        commands: 1,
+        functions: 0,
+        pieces: 0,
+    };
+    let ram = Ram::open(alloc, 8)?;
+    let mut pair = Pair::open(alloc, Ha::None, LunNo(3), 2, 4, room, ram)?;
+    let said = one_command(alloc, &mut pair)?;
+    let end = pair.close();
+    let wanted = [
+        Said::Queued(1),
+        Said::NoRoom(2),
+        Said::NoRoom(9),
+        Said::Gone,
+        Said::Ended(1, 7),
+        Said::Idle,
+        Said::Nothing,
+    ];
+    assert_eq!(rt; said, wanted);
+    assert_eq!(rt;
+        (end.lun, end.book.len(), end.unit.blocks()),
+        (LunNo(3), 3, 8)
+    );
+    Ok(())
+}
+
+// Two writes that overlap at block 1, and a command with the tag of the second; the first write ends in two pieces.
+fn overlap<B: Backend>(alloc: Global, pair: &mut Pair<B>) -> Result<[Said; 6], Fail> {
+    let first = arrive(alloc, pair, 1, WRITE_TWO, &[0x11; 1024])?;
+    let second = arrive(alloc, pair, 2, WRITE_TWO_BEHIND, &[0x22; 1024])?;
+    let repeated = arrive(alloc, pair, 2, READ_NOTHING, &[])?;
+    let moved = step(pair, 1, 1);
+    let blocked = step(pair, 2, 1);
+    Ok([first, second, repeated, moved, blocked, next(pair)])
+}
+
+const OVERLAPPED: [Said; 6] = [
+    Said::Queued(1),
+    Said::Queued(2),
+    Said::Turned(3),
+    Said::Moved(1),
+    Said::Blocked(1),
+    Said::Ended(1, 7),
+];
+
+// The same, then the second write to its end, and a read of two blocks with its data.
+fn overlap_and_read<B: Backend>(
+    alloc: Global,
+    pair: &mut Pair<B>,
+    cdb: &[u8],
+) -> Result<([Said; 6], [Said; 3], (usize, u8, u8)), Fail> {
+    let overlapped = overlap(alloc, pair)?;
+    let second = step(pair, 2, 8);
+    let read = arrive(alloc, pair, 3, cdb, &[])?;
+    let ended = step(pair, 4, 8);
+    Ok((overlapped, [second, read, ended], data(pair, 4)))
+}
+
+const READ_BEHIND: [Said; 3] = [Said::Ended(2, 7), Said::Queued(4), Said::Ended(4, 7)];
+
+#[test]
+fn overlapping_writes_go_one_behind_another(rt: HostRuntime) -> Result<(), Fail> {
+    let alloc = rt.alloc();
+    let ram = Ram::open(alloc, 8)?;
+    let mut pair = Pair::open(alloc, Ha::None, LunNo(0), 3, 4, ROOM, ram)?;
+    let (overlapped, read, data) = overlap_and_read(alloc, &mut pair, READ_TWO_LOW)?;
+    assert_eq!(rt; overlapped, OVERLAPPED);
+    assert_eq!(rt; read, READ_BEHIND);
+    assert_eq!(rt; data, (1024, 0x11, 0x22));
+    Ok(())
+}
+
+// A medium that fails once, behind so many calls.
+#[derive(Drop)]
+struct FaultyRam {
+    ram: Ram,
+    left: Option<u32>,
+}
+
+// Counts a call, and tells whether it fails.
+fn fails(left: &mut Option<u32>) -> bool
+    ensures failed { OnTrue result (is_none left.old ≡ false) }
+    ensures then { OnTrue result (is_none left.new ≡ true) }
+    ensures other { OnFalse result (is_none left.new ≡ is_none left.old) }
+{
+    match *left {
+        Some(0) => {
+            *left = None;
+            true
+        }
+        Some(calls) => {
+            *left = Some(calls - 1);
+            false
+        }
+        None => false,
+    }
+}
+
+impl Backend for FaultyRam {
+    ghost use Rattle.std.specs.Prelude.{is_none, cond};
+
+    ghost blocks = { λ f. f.ram };
+
+    ghost faults = { λ f. cond (is_none f.left) 1 0 };
+
+    fn len(&self) -> u32 {
+        self.ram.len()
+    }
+
+    fn get(&mut self, lba: u32, into: &mut [u8; 512]) -> Result<(), Failed> {
+        if fails(&mut self.left) {
+            return Err(Failed);
+        }
+        self.ram.get(lba, into)
+    }
+
+    fn swap(&mut self, lba: u32, block: &mut Block) -> Result<(), Failed> {
+        if fails(&mut self.left) {
+            return Err(Failed);
+        }
+        self.ram.swap(lba, block)
+    }
+}
+
+// The medium cut the second write behind its first block.
+fn has_cut(book: &Book) -> bool {
+    let cut = Event::Cut {
+        no: CmdNo::new(2),
+        puts: 1,
+        why: Why::Medium,
+        told: false,
+    };
+    for place in 0..book.len() {
+        if *book.event(place) == cut {
+            return true;
+        }
+    }
+    false
+}
+
+#[test]
+fn a_fault_of_the_medium_cuts(rt: HostRuntime) -> Result<(), Fail> {
+    let alloc = rt.alloc();
+    // it fails at the second put of the second write
+    let medium = FaultyRam {
+        ram: Ram::open(alloc, 8)?,
+        left: Some(3),
+    };
+    let mut pair = Pair::open(alloc, Ha::None, LunNo(0), 3, 4, ROOM, medium)?;
+    let (overlapped, read, data) = overlap_and_read(alloc, &mut pair, READ_TWO)?;
+    let cut = has_cut(pair.book());
+    assert_eq!(rt; overlapped, OVERLAPPED);
+    assert_eq!(rt; read, READ_BEHIND);
+    assert_eq!(rt; data, (1024, 0x22, 0));
+    assert!(rt; cut);
+    Ok(())
+}
