@@ -3,7 +3,7 @@ ghost use Rattle.std.specs.Bool.{OnTrue, OnFalse};
 ghost use Rattle.ct_word.specs.Nexuses.{IsNexus};
 
 use super::*;
-use ct_book::{Cmd, Event, Why, Work};
+use ct_book::{Book, Cmd, Event, Why, Work};
 use ct_cdb::Attr2;
 use ct_medium::{Backend, Ram};
 use ct_tmf::{Ask, Function};
@@ -44,7 +44,7 @@ enum Said {
     Other,
 }
 
-fn said(answer: Answer) -> Said {
+fn plain(answer: Answer) -> Said {
     match answer {
         Answer::Queued(no) => Said::Queued(no.number()),
         Answer::Turned(no) => Said::Turned(no.number()),
@@ -77,17 +77,17 @@ fn arrive<B: Backend>(
 ) -> Result<Said, Fail> {
     let out = Bytes::from_vec(out.to_vec(alloc)?);
     let cmd = Cmd::new(alloc, 7, NEXUS, 1, Tag(tag), Attr2::Simple, cdb, out)?;
-    Ok(said(pair.act(Act::Arrive(Node::A, Work::Cmd(cmd)))))
+    Ok(plain(pair.act(Act::Arrive(Node::A, Work::Cmd(cmd)))))
 }
 
 fn step<B: Backend>(pair: &mut Pair<B>, no: u32, blocks: u32) -> Said
     requires { 1 ≤ blocks }
 {
-    said(pair.act(Act::Step(CmdNo::new(no), blocks)))
+    plain(pair.act(Act::Step(CmdNo::new(no), blocks)))
 }
 
 fn next<B: Backend>(pair: &mut Pair<B>) -> Said {
-    said(pair.act(Act::Next(1)))
+    plain(pair.act(Act::Next(1)))
 }
 
 // The byte that each block of the data of a command's reply begins with, up to two blocks.
@@ -103,6 +103,23 @@ fn data<B: Backend>(pair: &Pair<B>, no: u32) -> (usize, u8, u8) {
     }
 }
 
+// A command without block operations, and what finds no room behind it.
+fn one_command<B: Backend>(alloc: Global, pair: &mut Pair<B>) -> Result<[Said; 7], Fail> {
+    let first = arrive(alloc, pair, 1, READ_NOTHING, &[])?;
+    let second = arrive(alloc, pair, 2, READ_NOTHING, &[])?;
+    let ask = Ask {
+        line: 9,
+        nexus: NEXUS,
+        function: Function::LunReset,
+    };
+    let function = plain(pair.act(Act::Arrive(Node::A, Work::Ask(ask))));
+    let gone = step(pair, 2, 1);
+    let ended = step(pair, 1, 1);
+    let idle = next(pair);
+    let nothing = plain(pair.act(Act::Deliver(Node::A)));
+    Ok([first, second, function, gone, ended, idle, nothing])
+}
+
 #[test]
 fn has_room_for_one_command(rt: HostRuntime) -> Result<(), Fail> {
     let alloc = rt.alloc();
@@ -113,68 +130,68 @@ fn has_room_for_one_command(rt: HostRuntime) -> Result<(), Fail> {
     };
     let ram = Ram::open(alloc, 8)?;
     let mut pair = Pair::open(alloc, Ha::None, LunNo(3), 2, 4, room, ram)?;
-    assert_eq!(rt;
-        arrive(alloc, &mut pair, 1, READ_NOTHING, &[])?,
-        Said::Queued(1)
-    );
-    assert_eq!(rt;
-        arrive(alloc, &mut pair, 2, READ_NOTHING, &[])?,
-        Said::NoRoom(2)
-    );
-    let ask = Ask {
-        line: 9,
-        nexus: NEXUS,
-        function: Function::LunReset,
-    };
-    assert_eq!(rt;
-        said(pair.act(Act::Arrive(Node::A, Work::Ask(ask)))),
-        Said::NoRoom(9)
-    );
-    assert_eq!(rt; step(&mut pair, 2, 1), Said::Gone);
-    assert_eq!(rt; step(&mut pair, 1, 1), Said::Ended(1, 7));
-    assert_eq!(rt; next(&mut pair), Said::Idle);
-    assert_eq!(rt; said(pair.act(Act::Deliver(Node::A))), Said::Nothing);
+    let said = one_command(alloc, &mut pair)?;
     let end = pair.close();
-    assert_eq!(rt; end.lun, LunNo(3));
-    assert_eq!(rt; end.book.len(), 3);
-    assert_eq!(rt; end.medium.len(), 8);
+    let wanted = [
+        Said::Queued(1),
+        Said::NoRoom(2),
+        Said::NoRoom(9),
+        Said::Gone,
+        Said::Ended(1, 7),
+        Said::Idle,
+        Said::Nothing,
+    ];
+    assert_eq!(rt; said, wanted);
+    assert_eq!(rt;
+        (end.lun, end.book.len(), end.medium.len()),
+        (LunNo(3), 3, 8)
+    );
     Ok(())
 }
 
-// Two writes that overlap at block 1, in pieces, and a read of blocks 1 and 2.
-fn overlap<B: Backend>(rt: &impl Abort, alloc: Global, pair: &mut Pair<B>) -> Result<(), Fail> {
-    assert_eq!(rt;
-        arrive(alloc, pair, 1, WRITE_TWO, &[0x11; 1024])?,
-        Said::Queued(1)
-    );
-    assert_eq!(rt;
-        arrive(alloc, pair, 2, WRITE_TWO_BEHIND, &[0x22; 1024])?,
-        Said::Queued(2)
-    );
-    assert_eq!(rt;
-        arrive(alloc, pair, 2, READ_NOTHING, &[])?,
-        Said::Turned(3)
-    );
-    assert_eq!(rt; step(pair, 1, 1), Said::Moved(1));
-    assert_eq!(rt; step(pair, 2, 1), Said::Blocked(1));
-    assert_eq!(rt; next(pair), Said::Ended(1, 7));
-    Ok(())
+// Two writes that overlap at block 1, and a command with the tag of the second; the first write ends in two pieces.
+fn overlap<B: Backend>(alloc: Global, pair: &mut Pair<B>) -> Result<[Said; 6], Fail> {
+    let first = arrive(alloc, pair, 1, WRITE_TWO, &[0x11; 1024])?;
+    let second = arrive(alloc, pair, 2, WRITE_TWO_BEHIND, &[0x22; 1024])?;
+    let repeated = arrive(alloc, pair, 2, READ_NOTHING, &[])?;
+    let moved = step(pair, 1, 1);
+    let blocked = step(pair, 2, 1);
+    Ok([first, second, repeated, moved, blocked, next(pair)])
 }
+
+const OVERLAPPED: [Said; 6] = [
+    Said::Queued(1),
+    Said::Queued(2),
+    Said::Turned(3),
+    Said::Moved(1),
+    Said::Blocked(1),
+    Said::Ended(1, 7),
+];
+
+// The same, then the second write to its end, and a read of two blocks with its data.
+fn overlap_and_read<B: Backend>(
+    alloc: Global,
+    pair: &mut Pair<B>,
+    cdb: &[u8],
+) -> Result<([Said; 6], [Said; 3], (usize, u8, u8)), Fail> {
+    let overlapped = overlap(alloc, pair)?;
+    let second = step(pair, 2, 8);
+    let read = arrive(alloc, pair, 3, cdb, &[])?;
+    let ended = step(pair, 4, 8);
+    Ok((overlapped, [second, read, ended], data(pair, 4)))
+}
+
+const READ_BEHIND: [Said; 3] = [Said::Ended(2, 7), Said::Queued(4), Said::Ended(4, 7)];
 
 #[test]
 fn overlapping_writes_go_one_behind_another(rt: HostRuntime) -> Result<(), Fail> {
     let alloc = rt.alloc();
     let ram = Ram::open(alloc, 8)?;
     let mut pair = Pair::open(alloc, Ha::None, LunNo(0), 3, 4, ROOM, ram)?;
-    overlap(&rt, alloc, &mut pair)?;
-    assert_eq!(rt; next(&mut pair), Said::Moved(2));
-    assert_eq!(rt; step(&mut pair, 2, 8), Said::Ended(2, 7));
-    assert_eq!(rt;
-        arrive(alloc, &mut pair, 3, READ_TWO_LOW, &[])?,
-        Said::Queued(4)
-    );
-    assert_eq!(rt; step(&mut pair, 4, 8), Said::Ended(4, 7));
-    assert_eq!(rt; data(&pair, 4), (1024, 0x11, 0x22));
+    let (overlapped, read, data) = overlap_and_read(alloc, &mut pair, READ_TWO_LOW)?;
+    assert_eq!(rt; overlapped, OVERLAPPED);
+    assert_eq!(rt; read, READ_BEHIND);
+    assert_eq!(rt; data, (1024, 0x11, 0x22));
     Ok(())
 }
 
@@ -230,30 +247,36 @@ impl Backend for FaultyRam {
     }
 }
 
-#[test]
-fn a_fault_of_the_medium_cuts(rt: HostRuntime) -> Result<(), Fail> {
-    let alloc = rt.alloc();
-    // the two puts of the first write, and the first of the second
-    let medium = FaultyRam {
-        ram: Ram::open(alloc, 8)?,
-        left: Some(3),
-    };
-    let mut pair = Pair::open(alloc, Ha::None, LunNo(0), 3, 4, ROOM, medium)?;
-    overlap(&rt, alloc, &mut pair)?;
-    assert_eq!(rt; step(&mut pair, 2, 8), Said::Ended(2, 7));
+// The medium cut the second write behind its first block.
+fn has_cut(book: &Book) -> bool {
     let cut = Event::Cut {
         no: CmdNo::new(2),
         puts: 1,
         why: Why::Medium,
         told: false,
     };
-    let last = pair.book().len() - 1;
-    assert!(rt; *pair.book().event(last) == cut);
-    assert_eq!(rt;
-        arrive(alloc, &mut pair, 3, READ_TWO, &[])?,
-        Said::Queued(4)
-    );
-    assert_eq!(rt; step(&mut pair, 4, 8), Said::Ended(4, 7));
-    assert_eq!(rt; data(&pair, 4), (1024, 0x22, 0));
+    for place in 0..book.len() {
+        if *book.event(place) == cut {
+            return true;
+        }
+    }
+    false
+}
+
+#[test]
+fn a_fault_of_the_medium_cuts(rt: HostRuntime) -> Result<(), Fail> {
+    let alloc = rt.alloc();
+    // it fails at the second put of the second write
+    let medium = FaultyRam {
+        ram: Ram::open(alloc, 8)?,
+        left: Some(3),
+    };
+    let mut pair = Pair::open(alloc, Ha::None, LunNo(0), 3, 4, ROOM, medium)?;
+    let (overlapped, read, data) = overlap_and_read(alloc, &mut pair, READ_TWO)?;
+    let cut = has_cut(pair.book());
+    assert_eq!(rt; overlapped, OVERLAPPED);
+    assert_eq!(rt; read, READ_BEHIND);
+    assert_eq!(rt; data, (1024, 0x22, 0));
+    assert!(rt; cut);
     Ok(())
 }
