@@ -1,5 +1,5 @@
-ghost use Rattle.std.specs.Prelude.{◌≡◌, ◌<◌, true, length, IfOk, IsSome};
-ghost use Rattle.ct_book.specs.Journals.{is_command, reply_of};
+ghost use Rattle.std.specs.Prelude.{◌≡◌, true, IsSome};
+ghost use Rattle.ct_book.specs.Journals.{reply_of};
 ghost use Rattle.ct_book.specs.Kept.{IsCommandNo, IsFunctionNo, IsWorkNo, IsReason, CanBePushed};
 
 use crate::{push_byte_text, push_disk, push_unit};
