@@ -5,5 +5,5 @@ use Rattle.ct_book.specs.declared.event.Logged.{Logged}
 use Rattle.ct_report.specs.DiskText.{disk_text}
 use Rattle.ct_report.specs.JournalText.{journal_text}
 
-abbrev pub unit_text : LunNo → List Logged → List (List ℕ) → List ℕ
+unfoldable pub unit_text : LunNo → List Logged → List (List ℕ) → List ℕ
 unit_text lun journal blocks = codes "lun " ++ decimal lun.0 ++ codes "\n" ++ journal_text journal ++ disk_text blocks

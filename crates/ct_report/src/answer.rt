@@ -22,6 +22,7 @@ pub fn push_reply(text: &mut Vec<u8>, book: &Book, no: CmdNo) -> Result<(), NoMe
     push_answer(text, reply)
 }
 
+// Adds the status (SAM-5, 5.3.1), the sense data (SPC-4, 4.5) and the data-in of a reply.
 fn push_answer(text: &mut Vec<u8>, reply: &Reply) -> Result<(), NoMemory>
     ensures { OnOk result (text.new.items ≡ text.old.items ++ answer_text reply.now) }
 {

@@ -9,7 +9,7 @@ ghost use Rattle.ct_report.specs.ByteText.{run_text, behind_dots, text_of_bytes}
 use ct_word::NoMemory;
 use itoa::Buffer;
 
-/// Adds bytes in print.
+/// Adds bytes in print. `NoMemory` may leave a part of them.
 pub fn push_byte_text(text: &mut Vec<u8>, bytes: &[u8]) -> Result<(), NoMemory>
     ensures { OnOk result (text.new.items ≡ text.old.items ++ text_of_bytes bytes.now) }
 {

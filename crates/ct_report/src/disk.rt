@@ -9,7 +9,7 @@ use crate::byte_print::push_byte_text;
 use ct_word::{Block, NoMemory};
 use std::io::Write;
 
-/// Adds a line for each maximal run of equal blocks that aren't all zeros.
+/// Adds a line for each maximal run of equal blocks that aren't all zeros. `NoMemory` may leave a part of them.
 pub fn push_disk(text: &mut Vec<u8>, blocks: &[Block]) -> Result<(), NoMemory>
     ensures { OnOk result (text.new.items ≡ text.old.items ++ disk_text blocks.now) }
 {

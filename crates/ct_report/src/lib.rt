@@ -10,3 +10,6 @@ mod unit;
 pub use byte_print::push_byte_text;
 pub use disk::push_disk;
 pub use unit::push_unit;
+
+#[cfg(test)]
+mod tests;
