@@ -1,9 +1,0 @@
-use Rattle.std.proofs.Common.{◌≡◌, ◌+◌, ◌-◌, ◌<◌, ◌≤◌, ℕ, List, [], ◌∷◌, ◌++◌, length, insert, refl, arith, ap, sym, ◌∙◌, length-append}
-use Rattle.std.proofs.lemmas.List.Edits.{length-insert}
-use Rattle.ct_lun.specs.declared.slot.Slot.{Slot}
-use Rattle.ct_lun.specs.Desk.{waiting_from}
-use Rattle.ct_lun.proofs.Lists.{waiting_within}
-use Rattle.ct_lun.proofs.mechanics.place_in.Goals as goal
-
-pub insert-requires-clause-within : goal.insert-requires-clause-within
-insert-requires-clause-within c = rw (c.first_waiting-at.ensures, c.as_slice.ensures) (waiting_within _)
