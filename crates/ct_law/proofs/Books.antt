@@ -1,13 +1,12 @@
 -- What the journal says of the commands of the task set, and of the works that are still to come.
-use Rattle.std.proofs.Common.{◌≡◌, ℕ, zero, suc, ◌+◌, ◌≤◌, ◌<◌, ◌⊎◌, inl, inr, Bool, true, false, not, ◌||◌, List, [], ◌∷◌, ◌++◌, Option, Some, None, length, refl, sym, ap, ◌∙◌, subst, ⊎_elim, arith, nat_eq, eqb-true, eq-eqb, append_assoc, length-append}
-use Rattle.std.proofs.lemmas.Bool.{cases_eq, cases_Bool, or_parts, or_from, or_left, or_right, both_ways}
+use Rattle.std.proofs.Common.{◌≡◌, ℕ, ◌+◌, ◌≤◌, ◌<◌, ◌⊎◌, inl, inr, Bool, true, false, not, ◌||◌, List, [], ◌∷◌, ◌++◌, Some, length, refl, sym, ap, ◌∙◌, subst, ⊎_elim, arith, eq-eqb, length-append}
+use Rattle.std.proofs.lemmas.Bool.{cases_eq, or_parts, both_ways}
 use Rattle.ct_book.specs.declared.work.Work.TheVariants as work
-use Rattle.ct_book.specs.declared.event.Event.{Event}
 use Rattle.ct_book.specs.declared.event.Event.TheVariants as event
 use Rattle.ct_book.specs.declared.event.Logged.{Logged}
 use Rattle.ct_book.specs.Journals.{numbered}
-use Rattle.ct_machine.specs.States.{Task, Stage, Waiting, Here, Granted, There, Over, Message, Arrival, is_waiting, done_at, without_task, with_task, at_stage, queued}
-use Rattle.ct_machine.specs.Laws.{has, is_entry, is_begin, is_enter, is_asked, made_at, made_by}
+use Rattle.ct_machine.specs.States.{Task, Stage, Waiting, Over, Message, Arrival, is_waiting, done_at, without_task, with_task, at_stage, queued}
+use Rattle.ct_machine.specs.Laws.{has, is_entry, is_begin, is_enter, made_at, made_by}
 use Rattle.ct_law.proofs.Tasks.{Has, has_without, without_has, has_with, with_has, with_itself, has_queued, queued_has, queued_itself}
 use Rattle.ct_law.proofs.Journal.{has_more, has_stays, has_now, has_not, has_same, made_more, Quiet, Untouched, untouched_more, IsOf, quiet}
 use Rattle.ct_law.proofs.Growing.{numbered_front, numbered_within}

@@ -1,14 +1,16 @@
 -- What a journal says, when it grows by one event.
-use Rattle.std.proofs.Common.{◌≡◌, ℕ, zero, suc, ◌+◌, ◌≤◌, ◌<◌, Bool, true, false, List, [], ◌∷◌, ◌++◌, Option, Some, None, length, refl, sym, ap, ◌∙◌, subst, append_assoc, append-nil, cond, slice_get, map, arith}
+use Rattle.std.proofs.Common.{◌≡◌, ℕ, zero, suc, ◌+◌, ◌≤◌, List, [], ◌∷◌, ◌++◌, Option, Some, None, length, refl, sym, ap, ◌∙◌, append_assoc, append-nil, slice_get, map, arith}
 use Rattle.std.specs.List.{cons_option}
 use Rattle.std.proofs.lemmas.List.Elements.{filter_map-append}
-use Rattle.std.proofs.lemmas.Option.{slice_get_within}
-use Rattle.ct_book.specs.declared.event.Event.{Event}
+use Rattle.std.proofs.lemmas.Option.{slice_get_within, same_Some}
+use Rattle.ct_word.specs.declared.names.Node.{Node}
+use Rattle.ct_book.specs.declared.work.Command.{Command}
+use Rattle.ct_book.specs.declared.work.Work.TheVariants as work
 use Rattle.ct_book.specs.declared.event.Logged.{Logged}
 use Rattle.ct_book.specs.Journals.{KeptWork, works_in, numbered}
 use Rattle.ct_exec.specs.Controls.{Disk, opening_disk}
 use Rattle.ct_machine.specs.declared.act.Opening.{Opening}
-use Rattle.ct_machine.specs.States.{State, opened}
+use Rattle.ct_machine.specs.States.{Arrival, State, opened}
 use Rattle.ct_machine.specs.Events.{after, after_events}
 use Rattle.ct_machine.specs.Runs.{replay}
 use Rattle.ct_machine.specs.Serial.{disk_after, serial_behind, serial_disk}
@@ -114,4 +116,14 @@ numbered-map {A = A} {B = B} f (suc k) xs d e = go xs k e
     go : (xs : List A) (k : ℕ) → slice_get xs k ≡ Some d → slice_get (map f xs) k ≡ Some (f d)
     go [] k e = absurd (cc)
     go (x ∷ xs) zero e = let same : x ≡ d = cc in ap (λ z. Some (f z)) same
+    go (x ∷ xs) (suc k) e = go xs k e
+
+-- an arrival whose work is this one
+pub numbered_back : (n : ℕ) (xs : List Arrival) (c : Command) → numbered n (map (λ (a : Arrival). a.work) xs) ≡ Some (work.Cmd c) → (node : Node) × (numbered n xs ≡ Some (record { node = node; work = work.Cmd c }))
+numbered_back zero xs c e = absurd (cc)
+numbered_back (suc k) xs c e = go xs k e
+  where
+    go : (xs : List Arrival) (k : ℕ) → slice_get (map (λ (a : Arrival). a.work) xs) k ≡ Some (work.Cmd c) → (node : Node) × (slice_get xs k ≡ Some (record { node = node; work = work.Cmd c }))
+    go [] k e = absurd (cc)
+    go (x ∷ xs) zero e = let w : x.work ≡ work.Cmd c = same_Some _ _ e in (x.node, ap (λ z. Some (record { node = x.node; work = z })) w)
     go (x ∷ xs) (suc k) e = go xs k e

@@ -1,12 +1,11 @@
 -- The order of the task set, against the order of entering.
-use Rattle.std.proofs.Common.{◌≡◌, ℕ, ◌⊎◌, inl, inr, Bool, true, false, List, [], ◌∷◌, ◌++◌, refl, sym, ap, ◌∙◌, subst, ⊎_elim, nat_eq, eqb-true}
-use Rattle.std.proofs.lemmas.Bool.{cases_eq, both_ways}
+use Rattle.std.proofs.Common.{◌≡◌, ℕ, true, false, List, [], ◌∷◌, ◌++◌, refl, sym, ap, ◌∙◌, subst, ⊎_elim, eqb-true}
+use Rattle.std.proofs.lemmas.Bool.{both_ways}
 use Rattle.ct_matrix.specs.Conflicts.{is_head}
 use Rattle.ct_book.specs.declared.work.Command.{Command}
-use Rattle.ct_book.specs.declared.event.Event.{Event}
 use Rattle.ct_book.specs.declared.event.Event.TheVariants as event
 use Rattle.ct_book.specs.declared.event.Logged.{Logged}
-use Rattle.ct_machine.specs.States.{Task, Stage, Waiting, is_waiting, without_task, with_task, at_stage, queued}
+use Rattle.ct_machine.specs.States.{Task, Stage, is_waiting, without_task, with_task, at_stage, queued}
 use Rattle.ct_machine.specs.Laws.{is_enter, has, comes_first}
 use Rattle.ct_law.proofs.Tasks.{Has, has_without, has_with, has_queued, precedes, precedes_without, precedes_with, precedes_queued, last_queued, head_queued}
 use Rattle.ct_law.proofs.Journal.{first_more, first_old, first_has}

@@ -1,8 +1,8 @@
 -- The task set after a change.
-use Rattle.std.proofs.Common.{◌≡◌, ℕ, ◌⊎◌, inl, inr, Bool, true, false, not, ◌&&◌, ◌||◌, List, [], ◌∷◌, ◌++◌, Option, Some, None, refl, sym, ap, ◌∙◌, subst, ⊎_elim, arith, nat_eq, cond, eqb-true, eq-eqb, ne_eqb}
-use Rattle.std.proofs.lemmas.Bool.{cases_eq, cases_Bool, both_ways, eqb-false, and_parts, and_cases, not-true, false≢true, or_cases, or_left, or_right, or_from}
-use Rattle.ct_matrix.specs.Conflicts.{is_head, is_ordered}
-use Rattle.ct_machine.specs.States.{Task, Stage, Waiting, Here, Granted, There, Over, is_waiting, task_of, without_task, with_task, at_stage, before_waiting, queued}
+use Rattle.std.proofs.Common.{◌≡◌, ℕ, ◌⊎◌, inl, inr, Bool, true, false, ◌||◌, List, [], ◌∷◌, ◌++◌, Some, refl, sym, ap, ◌∙◌, subst, ⊎_elim, nat_eq, cond, eqb-true, eq-eqb}
+use Rattle.std.proofs.lemmas.Bool.{both_ways, eqb-false, or_left, or_right}
+use Rattle.ct_matrix.specs.Conflicts.{is_head}
+use Rattle.ct_machine.specs.States.{Task, is_waiting, task_of, without_task, with_task, before_waiting, queued}
 
 -- the item stands in the queue
 abbrev pub Has : List Task → Task → Type 0

@@ -1,2 +1,37 @@
-//! The laws of the written machine: what every run owes, each the contract of a function with an empty body.
+//! The laws of the written machine: what every run owes, from every opening, each the contract of a function with an
+//! empty body. A run is what any acts write, one after another, on either node and at any interleaving, with any faults
+//! of the medium.
 #![tactic(auto)]
+
+mod liveness;
+mod safety;
+
+pub use liveness::{acts_write, next_does_something, runs_fit_their_room, runs_never_stop};
+pub use safety::{
+    blocks_are_serial_at_rest, control_is_serial, every_run_is_lawful, runs_answer_each_work_once,
+    runs_are_by_cells, runs_are_legal, runs_are_orderly, runs_are_sound, runs_are_timely,
+    runs_record_prefixes,
+};
+
+#[cfg(test)]
+mod tests {
+    use super::*;
+
+    #[test]
+    fn laws_can_be_called() {
+        every_run_is_lawful();
+        runs_are_legal();
+        runs_are_sound();
+        runs_answer_each_work_once();
+        runs_are_orderly();
+        runs_record_prefixes();
+        runs_are_by_cells();
+        runs_are_timely();
+        control_is_serial();
+        blocks_are_serial_at_rest();
+        runs_never_stop();
+        acts_write();
+        next_does_something();
+        runs_fit_their_room();
+    }
+}

@@ -16,7 +16,8 @@ use Rattle.ct_tmf.specs.declared.function.Ask.{Ask}
 use Rattle.ct_matrix.specs.Extents.{Print, no_print, footprint_of}
 use Rattle.ct_matrix.specs.Conflicts.{is_head}
 use Rattle.ct_matrix.specs.declared.held.Held.{Held}
-use Rattle.ct_matrix.specs.Queues.{HeldCommand, TaskSet}
+use Rattle.ct_matrix.specs.declared.held.HeldCommand.{HeldCommand}
+use Rattle.ct_matrix.specs.Queues.{TaskSet}
 use Rattle.ct_book.specs.declared.work.Command.{Command}
 use Rattle.ct_book.specs.declared.event.Kind2.{Kind2}
 use Rattle.ct_book.specs.Journals.{KeptWork, numbered}

@@ -1,1 +1,2 @@
+mod Blocking
 mod Shared

@@ -1,6 +1,6 @@
 -- The task set of a logical unit in queue order (SAM-5, clause 8; the place of a HEAD OF QUEUE command is this
 -- project's own).
-use Rattle.std.specs.Prelude.{ℕ, List, [], ◌∷◌, ◌++◌, Bool, true, false, not, ◌&&◌, ◌==◌, if◌then◌else◌, Option, None, Some, is_none, option_map}
+use Rattle.std.specs.Prelude.{◌≡◌, ℕ, List, [], ◌∷◌, ◌++◌, Bool, true, false, not, ◌&&◌, ◌==◌, if◌then◌else◌, Option, None, Some, is_none, IsNone, option_map}
 use Rattle.std.specs.List.{find}
 use Rattle.std.specs.Option.{option_map_or}
 use Rattle.ct_matrix.specs.declared.held.HeldCommand.{HeldCommand}
@@ -53,12 +53,24 @@ first_to_wait_for unrestricted ahead waiting (command ∷ commands) =
 unfoldable pub blocker_of : TaskSet → HeldCommand → Option ℕ
 blocker_of set waiting = first_to_wait_for set.unrestricted true waiting set.commands
 
+-- its number, where one is found
+abbrev pub number_of : Option HeldCommand → Option ℕ
+number_of found = option_map (λ command. command.no) found
+
+-- a waiting command stands once in a task set, between those ahead of it and those behind
+pub record Stands (set : TaskSet) (ahead : List HeldCommand) (waiting : HeldCommand) (behind : List HeldCommand) : Type 0 where
+  pub order : set.commands ≡ ahead ++ waiting ∷ behind
+  pub once_ahead : IsNone (command_of waiting.no ahead)
+  pub once_behind : IsNone (command_of waiting.no behind)
+
+-- the first of some commands, all ahead of a waiting one or all behind it, for which it has to wait
+abbrev pub first_waited_for : Bool → Bool → HeldCommand → List HeldCommand → Option ℕ
+first_waited_for unrestricted is_ahead waiting commands =
+    number_of (find (λ command. has_to_wait unrestricted is_ahead command.held waiting.held) commands)
+
 -- it waits, and for no other command
 abbrev pub is_ready : TaskSet → HeldCommand → Bool
 is_ready set command = not command.held.begun && is_none (blocker_of set command)
-
-abbrev pub number_of : Option HeldCommand → Option ℕ
-number_of found = option_map (λ command. command.no) found
 
 -- the first command that is ready, the first that has begun, and the first of all
 unfoldable pub next_ready_of : TaskSet → Option ℕ

@@ -18,7 +18,7 @@ pub use blocks::{Extent, Footprint, overlaps};
 pub use cells::Action;
 pub use demands::{conflict, demand};
 pub use held::{Attr, Demand, Held, HeldCommand};
-pub use laws::{block_cells_are_symmetric, overlap_is_symmetric};
+pub use laws::{block_cells_are_symmetric, blocker_is_the_first, overlap_is_symmetric};
 pub use reach::footprint;
 pub use steps::{Steps, demand_counted};
 pub use table::action;
@@ -143,6 +143,7 @@ mod tests {
         assert_eq!(rt; action(SerIdx::Rd, SerIdx::Wr), Action::OptExtent);
         overlap_is_symmetric();
         block_cells_are_symmetric();
+        blocker_is_the_first();
     }
 
     fn count_from<L: Ledger>(blank: Blank) -> Demand

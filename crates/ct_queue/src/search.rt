@@ -53,11 +53,11 @@ pub(crate) fn blocker(
     ensures { result ≡ first_to_wait_for free_order true waiting.now commands.now }
 {
     let mut ahead = true;
-    for command in commands {
-        if command.no == waiting.no {
+    for live in commands {
+        if live.no == waiting.no {
             ahead = false;
-        } else if demand(&command.held, &waiting.held, ahead, free_order) == Demand::Wait {
-            return Some(command.no);
+        } else if demand(&live.held, &waiting.held, ahead, free_order) == Demand::Wait {
+            return Some(live.no);
         }
     }
     None

@@ -1,0 +1,240 @@
+#!/usr/bin/env python3
+"""Changed machines against the law: bench/wrong_machines.py [NAME ..]
+Each changes one definition of ct_machine in a copy, and there a clause of the law is proved to be false of one run. On the
+machine as it is the same proof is refused, and what the clause comes to at that script is proved. A line for each machine; the
+status is 1 where one isn't refuted."""
+import os
+import re
+import shutil
+import subprocess
+import sys
+import tempfile
+
+ROOT = os.path.dirname(os.path.dirname(os.path.abspath(__file__)))
+SPECS = ["States", "Events", "Acts", "Runs", "Serial", "Laws"]
+
+HEAD = """-- A run, and what the law says of it.
+use Rattle.std.proofs.Common.{◌≡◌, ℕ, List, [], ◌∷◌, Bool, true, false, ◌==◌, slice_index_or, ap, sym, refl}
+use Rattle.ct_word.specs.declared.names.Ha.TheVariants as ha
+use Rattle.ct_word.specs.declared.names.Node.TheVariants.{A, B}
+use Rattle.ct_cdb.specs.declared.op.Attr2.TheVariants.{Head}
+use Rattle.ct_tmf.specs.declared.function.Function.TheVariants.{AbortTask, LunReset}
+use Rattle.ct_book.specs.declared.event.Logged.{Logged}
+use Rattle.ct_machine.specs.declared.act.Opening.{Opening}
+use Rattle.ct_machine.specs.Runs.{Move, replay, journal_of}
+use Rattle.ct_machine.specs.Serial.{serial_disk}
+use Rattle.ct_machine.specs.Laws.{has, is_begin, is_entry, comes_first, made_by, beside}
+use Rattle.ct_machine.specs.Laws.{IsOrderly, RecordsPrefix, EachOnce, IsByCells, IsLawful}
+use Rattle.ct_machine.proofs.Samples.Parts.{machine, unit_of, command, comes, write10, write, read, asks, step, deliver, bytes}
+
+abbrev unit : Opening
+unit = unit_of ha.MODE 16
+
+abbrev script : List Move
+script = SCRIPT ∷ []
+
+abbrev journal : List Logged
+journal = journal_of unit script
+
+differ : true ≡ false → ⊥
+differ e = cc
+
+abbrev begins_with_zero : List (List ℕ) → Bool
+begins_with_zero blocks = slice_index_or (slice_index_or blocks 0 []) 0 0 == 0
+
+"""
+
+
+class Machine:
+    def __init__(self, name, module, was, becomes, mode, script, clause, proof, kept, uses=""):
+        self.name, self.module, self.was, self.becomes, self.uses = name, module, was, becomes, uses
+        self.mode, self.script, self.clause, self.proof, self.kept = mode, script, clause, proof, kept
+
+    def title(self):
+        return "".join(word.capitalize() for word in self.name.split("-"))
+
+    def head(self):
+        return HEAD.replace("MODE", self.mode).replace("SCRIPT", " ∷ ".join(self.script))
+
+    def refutation(self):
+        return f"{self.head()}refuted : {self.clause} unit journal → ⊥\nunfolding machine beside\nrefuted law = {self.proof}\n"
+
+    def keeping(self):
+        return f"{self.head()}kept : {self.kept}\nunfolding machine beside\nkept = refl\n"
+
+
+def at(event, rest):
+    """What the law says of an event, counted from 0."""
+    return "law" + ".1" * event + ".0" + rest
+
+
+def false_is_true(term):
+    return f"differ (sym ({term}))"
+
+
+ABORT = "asks 7 A 0 (AbortTask (record { 0 = 1 }))"
+GRANTED = ["write 7 B 1 2 0 6 0x77", "deliver A", "step 1 1"]
+CUT = "cut_at (By by) _ task s = leaves task.no (record s { functions = noted by task.no s.functions })"
+
+MACHINES = [
+    # a HEAD OF QUEUE write begins beside a begun read of its block
+    Machine(
+        "head-waits-for-none", "Acts",
+        "blocked_by [] s task = blocker_of (task_set_of s) (held_of (length s.blocks) task)",
+        "blocked_by [] s task =\n"
+        "    if is_head task.command.attr then None else blocker_of (task_set_of s) (held_of (length s.blocks) task)",
+        "None", ["read 5 A 0 1 0 2", "step 1 1", "comes A (command 7 A 1 1 Head (write10 0 1) (bytes 0x22 1))", "step 2 1"],
+        "IsOrderly", false_is_true(at(6, " 1 _ _ (λ e. differ (ap (λ (n : ℕ). n == 1) e)) refl refl refl refl")),
+        "has (is_begin 2) journal ≡ false",
+        "use Rattle.ct_matrix.specs.Conflicts.{is_head}\n"),
+    # a begun command that an abort hits isn't cut, and moves after the answer
+    Machine(
+        "abort-cuts-later", "Acts",
+        "if is_hit ask task && is_here task.stage then says (event.Cut",
+        "if is_hit ask task && is_here task.stage && (done_at task.stage == 0) then says (event.Cut",
+        "None", ["write 5 A 0 1 0 8 0x33", "step 1 3", ABORT, "step 1 5"],
+        "RecordsPrefix", false_is_true(at(6, " _ 1 _ refl refl refl refl refl")),
+        "comes_first (is_entry 1) (is_entry 2) journal ≡ true"),
+    # a cut command stays and moves after its entry
+    Machine(
+        "cut-moves-on", "Events", CUT, "cut_at (By by) _ task s = record s { functions = noted by task.no s.functions }",
+        "None", ["write 5 A 0 1 0 8 0x33", "step 1 3", ABORT, "step 1 5"],
+        "RecordsPrefix", f"differ ({at(8, '')})",
+        "made_by 1 journal ≡ 3"),
+    # an aborted write is undone, though its cut counts the blocks that it put
+    Machine(
+        "cut-rolls-back", "Events", CUT,
+        "cut_at (By by) _ task s = leaves task.no (record s {\n"
+        "  functions = noted by task.no s.functions;\n"
+        "  blocks = (after_all (map (λ (byte : ℕ). 0) task.command.out) (plan_in (length s.blocks) task.command)\n"
+        "      (record { blocks = s.blocks; got = [] })).blocks;\n"
+        "})",
+        "None", ["write 5 A 0 1 0 8 0x33", "step 1 5", ABORT],
+        "IsLawful",
+        "differ (ap begins_with_zero (law.blocks (record { each = " + "(refl, " * 8 + "tt" + ")" * 8 + "; last = refl }) refl))",
+        "(replay unit journal).blocks ≡ (serial_disk unit journal).blocks"),
+    # a function awaits no granted command
+    Machine(
+        "closes-beside-a-grant", "Events",
+        "awaited_by ask tasks = map (λ (task : Task). task.no) (filter (is_awaited ask) tasks)",
+        "awaited_by ask tasks = []",
+        "Serialise", GRANTED + ["deliver B", "step 1 2", "asks 12 A 0 LunReset"],
+        "RecordsPrefix", false_is_true(at(8, " _ 1 _ refl refl refl refl refl")),
+        "has (is_entry 2) journal ≡ false"),
+    # node B steps a command before its grant comes
+    Machine(
+        "begins-before-its-grant", "Acts",
+        "stepping_at Granted task count fault s = unchanged (answer.Away task.no) s",
+        "stepping_at Granted task count fault s = moved task s (moving (There 0 []) task count fault s)",
+        "Serialise", GRANTED + ["step 1 2"],
+        "IsByCells", "differ (ap begins_with_zero law.blocks)",
+        "(replay unit journal).blocks ≡ (beside unit 0 journal).blocks"),
+    # a command that an abort cuts leaves without an event
+    Machine(
+        "cut-without-entry", "Events",
+        "stopped = s.stopped ++ awaited_by ask s.tasks;",
+        "stopped = s.stopped ++ awaited_by ask s.tasks;\n"
+        "  tasks = filter (λ (task : Task). not (is_hit ask task && is_here task.stage)) s.tasks;",
+        "None", ["write 5 A 0 1 0 8 0x33", "step 1 3", ABORT],
+        "EachOnce", false_is_true("law.all (record { tasks = refl; functions = refl; to_a = refl; to_b = refl }) 1 refl"),
+        "has (is_entry 1) journal ≡ true"),
+]
+
+
+def below(lines, crate):
+    """The libraries under a crate and the crate itself, those of this repository."""
+    reached = []
+    for name in lines[crate]:
+        if name in lines:
+            reached += [below_it for below_it in below(lines, name) if below_it not in reached]
+    return reached + [crate]
+
+
+def copy(scratch):
+    """The crates under ct_machine, and of ct_machine the definitions and the parts of samples."""
+    with open(os.path.join(ROOT, "crates.txt"), encoding="utf-8") as file:
+        lines = dict(line.strip().split(":") for line in file if line.strip() and not line.startswith("#"))
+    lines = {name: libraries.split() for name, libraries in lines.items()}
+    crates = below(lines, "ct_machine")
+    with open(os.path.join(scratch, "crates.txt"), "w", encoding="utf-8") as file:
+        file.writelines(f"{name}: {' '.join(lines[name])}\n" for name in crates)
+    for name in crates:
+        shutil.copytree(os.path.join(ROOT, "crates", name), os.path.join(scratch, "crates", name), symlinks=True)
+    crate = os.path.join(scratch, "crates", "ct_machine")
+    for folder, kept in (("src", ["act.rt"]), ("specs", [f"{module}.antt" for module in SPECS])):
+        for name in set(os.listdir(os.path.join(crate, folder))) - set(kept):
+            path = os.path.join(crate, folder, name)
+            shutil.rmtree(path) if os.path.isdir(path) else os.remove(path)
+    put(crate, "src/lib.rt", "//! The written machine.\n#![tactic(auto)]\n\nmod act;\n\npub use act::{Act, Answer, Opening};\n")
+    put(crate, "specs/Lib.antt", "".join(f"pub mod {module}\n" for module in SPECS))
+    parts = read(crate, "proofs/Samples/Parts.antt")
+    shutil.rmtree(os.path.join(crate, "proofs"))
+    put(crate, "proofs/Samples/Parts.antt", parts)
+    return crate
+
+
+def read(crate, path):
+    with open(os.path.join(crate, path), encoding="utf-8") as file:
+        return file.read()
+
+
+def put(crate, path, text):
+    os.makedirs(os.path.dirname(os.path.join(crate, path)), exist_ok=True)
+    with open(os.path.join(crate, path), "w", encoding="utf-8") as file:
+        file.write(text)
+
+
+def check(crate, proofs):
+    """Checks the crate with these proofs alone; the names of those that are refused, or None where all else failed."""
+    put(crate, "proofs/Lib.antt", "pub mod Samples\n" + "".join(f"pub mod {name}\n" for name in proofs))
+    put(crate, "proofs/Samples.antt", "pub mod Parts\n")
+    for name, text in proofs.items():
+        put(crate, f"proofs/{name}.antt", text)
+    run = subprocess.run(["rt", "check"], cwd=crate, capture_output=True, text=True, check=False)
+    for name in proofs:
+        os.remove(os.path.join(crate, f"proofs/{name}.antt"))
+    output = run.stdout + run.stderr
+    refused = re.findall(r"^(?:\./)?(\S+\.antt):[\d:]+ error: (.*)$", output, re.MULTILINE)
+    names = {f"proofs/{name}.antt": name for name in proofs}
+    if any(path not in names for path, _ in refused) or (run.returncode == 0) != (not refused):
+        return None, output
+    return {names[path]: error for path, error in refused}, output
+
+
+def main():
+    wanted = [machine for machine in MACHINES if not sys.argv[1:] or machine.name in sys.argv[1:]]
+    failed = False
+    with tempfile.TemporaryDirectory() as scratch:
+        crate = copy(scratch)
+        proofs = {}
+        for machine in wanted:
+            proofs[machine.title()] = machine.refutation()
+            proofs[machine.title() + "Kept"] = machine.keeping()
+        as_it_is, output = check(crate, proofs)
+        if as_it_is is None:
+            sys.exit("the machine as it is:\n" + output)
+        for machine in wanted:
+            path = f"specs/{machine.module}.antt"
+            text = read(crate, path)
+            found = text.count(machine.was)
+            said = []
+            if found != 1:
+                said.append(f"the text to change stands {found} times in {machine.module}")
+            else:
+                put(crate, path, text.replace("use ", machine.uses + "use ", 1).replace(machine.was, machine.becomes))
+                refused, output = check(crate, {machine.title(): machine.refutation()})
+                put(crate, path, text)
+                if refused is None:
+                    said.append("the changed machine isn't accepted:\n" + output)
+                elif refused:
+                    said.append("not refuted: " + refused[machine.title()])
+            if machine.title() not in as_it_is:
+                said.append("the machine as it is is refuted too")
+            if machine.title() + "Kept" in as_it_is:
+                said.append("the machine as it is: " + as_it_is[machine.title() + "Kept"])
+            failed = failed or bool(said)
+            print(f"{machine.name}: {'; '.join(said) or 'refuted'}", flush=True)
+    sys.exit(1 if failed else 0)
+
+
+main()

@@ -1,0 +1,162 @@
+-- What the samples are made of: openings, works, moves, and what a run shows. No nexus has a unit attention at first, and
+-- a READ (10) of no blocks is the command that ends at once.
+use Rattle.std.specs.List.{filter_map}
+use Rattle.std.proofs.Common.{ℕ, ◌*◌, List, [], ◌∷◌, ◌++◌, false, map, take, replicate, Option, None, Some}
+use Rattle.ct_word.specs.declared.names.Ha.{Ha}
+use Rattle.ct_word.specs.declared.names.Node.{Node}
+use Rattle.ct_word.specs.declared.names.Node.TheVariants.{A, B}
+use Rattle.ct_cdb.specs.declared.op.Attr2.{Attr2}
+use Rattle.ct_cdb.specs.declared.op.Attr2.TheVariants.{Simple}
+use Rattle.ct_cdb.specs.Forms.{read10_of, write10_of}
+use Rattle.ct_sense.specs.declared.reply.Reply.{Reply}
+use Rattle.ct_sense.specs.declared.reply.Status.{Status}
+use Rattle.ct_sense.specs.declared.reply.Status.TheVariants.{Good, CheckCondition}
+use Rattle.ct_tmf.specs.declared.function.Function.{Function}
+use Rattle.ct_tmf.specs.Reaches.{hits, seeks}
+use Rattle.ct_plan.specs.Plans.{plan_of, need_of}
+use Rattle.ct_matrix.specs.Extents.{overlap, footprint_of}
+use Rattle.ct_matrix.specs.Conflicts.{conflicts, skips}
+use Rattle.ct_matrix.specs.Queues.{blocker_of, next_ready_of}
+use Rattle.ct_book.specs.declared.work.Work.TheVariants as work
+use Rattle.ct_book.specs.declared.event.Event.{Event}
+use Rattle.ct_book.specs.declared.event.Logged.{Logged}
+use Rattle.ct_book.specs.Journals.{KeptWork}
+use Rattle.ct_exec.specs.Controls.{is_unrestricted, has_descriptors, tells_aborts, closing_control}
+use Rattle.ct_exec.specs.Executions.{refusal_of, refused_control, execute, plan_in, need_in}
+use Rattle.ct_machine.specs.declared.act.Act.TheVariants as act
+use Rattle.ct_machine.specs.declared.act.Answer.{Answer}
+use Rattle.ct_machine.specs.declared.act.Opening.{Opening}
+use Rattle.ct_machine.specs.States.{Task}
+use Rattle.ct_machine.specs.Events.{after}
+use Rattle.ct_machine.specs.Acts.{turned_cause, act_of}
+use Rattle.ct_machine.specs.Runs.{Move, replay, journal_of}
+use Rattle.ct_machine.specs.Serial.{serial_disk}
+
+-- all that a run computes with
+unfoldable pub machine : Unit {0}
+unfolding read10_of write10_of hits seeks plan_of need_of overlap footprint_of conflicts skips blocker_of next_ready_of is_unrestricted has_descriptors tells_aborts closing_control refusal_of refused_control execute plan_in need_in after turned_cause act_of replay journal_of serial_disk
+machine = tt
+
+-- a unit of so many blocks
+abbrev pub unit_of : Ha → ℕ → Opening
+unit_of ha blocks = record {
+  ha = ha;
+  lun = record { 0 = 0 };
+  blocks = blocks;
+  depth = 64;
+  pool = 1024;
+  room = record { commands = 8; functions = 4; pieces = 64 };
+}
+
+-- node A has port 0, node B has port 1
+abbrev pub port_of : Node → ℕ
+port_of A = 0
+port_of B = 1
+
+-- a command of an initiator, with a tag
+abbrev pub command : ℕ → Node → ℕ → ℕ → Attr2 → List ℕ → List ℕ → KeptWork
+command line node init tag attr cdb out = work.Cmd (record {
+  line = line;
+  nexus = record { port = port_of node; init = init };
+  visible = 1;
+  tag = record { 0 = tag };
+  attr = attr;
+  cdb = cdb;
+  out = out;
+})
+
+abbrev pub function : ℕ → Node → ℕ → Function → KeptWork
+function line node init asked = work.Ask (record { line = line; nexus = record { port = port_of node; init = init }; function = asked })
+
+-- so many blocks of one byte
+abbrev pub bytes : ℕ → ℕ → List ℕ
+bytes byte blocks = replicate (512 * blocks) byte
+
+-- what is done, as the lines of a script; works that come are numbered from 1, and their commands are SIMPLE, if it isn't
+-- said otherwise
+
+abbrev pub comes : Node → KeptWork → Move
+comes node came = record { act = act.Arrive node came; fault = None }
+
+abbrev pub write10 : ℕ → ℕ → List ℕ
+write10 lba count = 0x2a ∷ 0 ∷ 0 ∷ 0 ∷ 0 ∷ lba ∷ 0 ∷ 0 ∷ count ∷ 0 ∷ []
+
+abbrev pub read10 : ℕ → ℕ → List ℕ
+read10 lba count = 0x28 ∷ 0 ∷ 0 ∷ 0 ∷ 0 ∷ lba ∷ 0 ∷ 0 ∷ count ∷ 0 ∷ []
+
+abbrev pub write : ℕ → Node → ℕ → ℕ → ℕ → ℕ → ℕ → Move
+write line node init tag lba count byte = comes node (command line node init tag Simple (write10 lba count) (bytes byte count))
+
+abbrev pub read : ℕ → Node → ℕ → ℕ → ℕ → ℕ → Move
+read line node init tag lba count = comes node (command line node init tag Simple (read10 lba count) [])
+
+-- it ends at once, with GOOD and no data
+abbrev pub no_read : ℕ → Node → ℕ → ℕ → Move
+no_read line node init tag = read line node init tag 0 0
+
+abbrev pub asks : ℕ → Node → ℕ → Function → Move
+asks line node init asked = comes node (function line node init asked)
+
+abbrev pub step : ℕ → ℕ → Move
+step number count = record { act = act.Step number count; fault = None }
+
+-- the medium fails the operation of the step that has so many before it
+abbrev pub failing_step : ℕ → ℕ → ℕ → Move
+failing_step number count before = record { act = act.Step number count; fault = Some before }
+
+abbrev pub deliver : Node → Move
+deliver node = record { act = act.Deliver node; fault = None }
+
+abbrev pub next : Move
+next = record { act = act.Next 65536; fault = None }
+
+-- what a run shows: its events, the replies with them, the answers of its acts, and the first blocks of the disk, as
+-- the run leaves them and as the entries of its journal make them one at a time
+pub record Shown : Type 0 where
+  pub events : List Event
+  pub replies : List Reply
+  pub answers : List Answer
+  pub blocks : List (List ℕ)
+  pub serial : List (List ℕ)
+
+abbrev pub answers_behind : Opening → List Logged → List Move → List Answer
+answers_behind o journal [] = []
+answers_behind o journal (move ∷ moves) =
+    let done = act_of (replay o journal) move.act move.fault in
+    done.answer ∷ answers_behind o (journal ++ done.journal) moves
+
+abbrev pub shown_of : Opening → List Move → List Logged → ℕ → Shown
+shown_of o moves journal blocks = record {
+  events = map (λ (logged : Logged). logged.event) journal;
+  replies = filter_map (λ (logged : Logged). logged.reply) journal;
+  answers = answers_behind o [] moves;
+  blocks = take blocks (replay o journal).blocks;
+  serial = take blocks (serial_disk o journal).blocks;
+}
+
+abbrev pub shown : Opening → List Move → ℕ → Shown
+shown o moves blocks = shown_of o moves (journal_of o moves) blocks
+
+-- the numbers of the task set in queue order
+abbrev pub queue_of : Opening → List Move → List ℕ
+queue_of o moves = map (λ (task : Task). task.no) (replay o (journal_of o moves)).tasks
+
+-- replies
+
+abbrev pub good : List ℕ → Reply
+good got = record { status = Good; sense = None; descriptor = false; body = got }
+
+abbrev pub check : ℕ → ℕ → ℕ → Option ℕ → Reply
+check key asc ascq info = record {
+  status = CheckCondition;
+  sense = Some (record { key = key; asc = asc; ascq = ascq; info = info });
+  descriptor = false;
+  body = [];
+}
+
+abbrev pub with_status : Status → Reply
+with_status status = record { status = status; sense = None; descriptor = false; body = [] }
+
+-- so many blocks of one byte, as the disk has them
+abbrev pub filled : ℕ → ℕ → List (List ℕ)
+filled byte blocks = replicate blocks (replicate 512 byte)
