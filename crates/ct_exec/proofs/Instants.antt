@@ -1,20 +1,19 @@
 -- A command that nothing refuses and that has no block operation leaves the disk, and returns no data.
-use Rattle.std.proofs.Common.{◌≡◌, ℕ, Bool, true, false, not, ◌&&◌, nat_lt, if◌then◌else◌, List, [], length, Option, None, Some, Result, Ok, Err, refl, sym, ◌∙◌, ap, subst}
+use Rattle.std.proofs.Common.{◌≡◌, ℕ, Bool, true, false, not, ◌&&◌, nat_lt, if◌then◌else◌, List, [], length, Option, None, Some, Result, Ok, Err, refl, ◌∙◌, ap, subst}
 use Rattle.ct_word.specs.Nexuses.{no_nexuses}
 use Rattle.ct_cdb.specs.declared.op.Cdb.{Cdb}
 use Rattle.ct_cdb.specs.declared.op.CdbFault.{CdbFault}
-use Rattle.ct_cdb.specs.declared.op.Op.{Op}
 use Rattle.ct_cdb.specs.Forms.{cdb_of}
 use Rattle.ct_cdb.specs.Performed.{data_length, is_inside, is_performed}
 use Rattle.ct_sense.specs.declared.reply.Reply.{Reply}
 use Rattle.ct_plan.specs.declared.operation.BlockOp.{BlockOp}
 use Rattle.ct_plan.specs.Plans.{plan_of}
-use Rattle.ct_plan.specs.Cells.{Progress, Cells, performed}
+use Rattle.ct_plan.specs.Cells.{Progress, performed}
 use Rattle.ct_plan.specs.Effects.{written_disk, data_in}
 use Rattle.ct_plan.proofs.Cuts.{whole_progress}
 use Rattle.ct_book.specs.declared.work.Command.{Command}
 use Rattle.ct_exec.specs.Controls.{ControlState, Disk}
-use Rattle.ct_exec.specs.Executions.{Execution, good, refusal_of, refusal_by, illegal_request, execute, executed, effect_of, plan_in, plan_by}
+use Rattle.ct_exec.specs.Executions.{good, refusal_of, refusal_by, illegal_request, execute, executed, effect_of, plan_in, plan_by}
 
 disk_with : ControlState → List (List ℕ) → Disk
 disk_with control blocks = record { control = control; blocks = blocks }

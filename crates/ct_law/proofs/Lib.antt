@@ -26,6 +26,8 @@ pub mod Turns
 pub mod Comings
 pub mod Complete
 pub mod Lawful
+pub mod Writes
+pub mod Busy
 pub mod Sends
 pub mod Live
 pub mod Weights

@@ -1,14 +1,12 @@
 -- A command comes: the book notes it, and it enters the task set or is refused.
-use Rattle.std.proofs.Common.{◌≡◌, ◌≢◌, ℕ, zero, suc, ◌+◌, ◌-◌, ◌*◌, ◌<◌, ◌≤◌, List, [], ◌∷◌, ◌++◌, Bool, true, false, ◌&&◌, ◌==◌, nat_le, nat_lt, inl, inr, Option, Some, None, IsNone, IsSome, IsSomeAnd, is_some, Result, Ok, Err, length, map, slice_get, replicate, sum_by, if◌then◌else◌, refl, sym, ap, ◌∙◌, subst, arith, length-append, append_assoc, ltb-true, leb-true}
+use Rattle.std.proofs.Common.{◌≡◌, ℕ, ◌+◌, ◌-◌, ◌<◌, ◌≤◌, List, [], ◌∷◌, ◌++◌, Bool, true, false, ◌&&◌, ◌==◌, nat_le, nat_lt, inl, inr, Option, Some, None, IsNone, IsSomeAnd, is_some, Result, Ok, Err, length, sum_by, if◌then◌else◌, refl, sym, ap, ◌∙◌, subst, arith, append_assoc, ltb-true, leb-true}
 use Rattle.std.proofs.lemmas.Bool.{cases_Bool, false≢true}
-use Rattle.std.proofs.lemmas.Bool.Decides.{nat_tests}
-use Rattle.std.proofs.lemmas.List.{length-map, append-nil}
+use Rattle.std.proofs.lemmas.List.{length-map}
 use Rattle.std.proofs.lemmas.List.Sums.{sum_by-cons}
 use Rattle.ct_word.specs.declared.names.Node.TheVariants.{A}
 use Rattle.ct_sense.specs.declared.reply.Reply.{Reply}
 use Rattle.ct_pool.specs.Leases.{PoolState}
 use Rattle.ct_plan.specs.Tasks.{IsReady}
-use Rattle.ct_matrix.specs.Queues.{TaskSet}
 use Rattle.ct_matrix.specs.Conflicts.{is_head}
 use Rattle.ct_book.specs.declared.work.Command.{Command}
 use Rattle.ct_book.specs.declared.work.Work.TheVariants as work
@@ -20,22 +18,21 @@ use Rattle.ct_book.proofs.Places.{numbered-stays, numbered-last, numbered-within
 use Rattle.ct_exec.specs.Executions.{plan_in, need_in}
 use Rattle.ct_machine.specs.declared.act.Answer.{Answer}
 use Rattle.ct_machine.specs.declared.act.Answer.TheVariants as answer
-use Rattle.ct_machine.specs.States.{Stage, Waiting, Task, Arrival, State, task_set_of, before_waiting, queued, is_waiting}
-use Rattle.ct_machine.specs.Events.{after, after_events, after_event, new_task}
-use Rattle.ct_machine.specs.Acts.{Done, Turn, followed, writes, has_room_for, next_number, arriving, arriving_at, entering, entering_with, turned_cause, unchanged}
+use Rattle.ct_machine.specs.States.{Task, State, task_set_of, before_waiting, queued, is_waiting}
+use Rattle.ct_machine.specs.Events.{after, after_events, new_task}
+use Rattle.ct_machine.specs.Acts.{Done, has_room_for, next_number, arriving, arriving_at, entering, entering_with, turned_cause, unchanged}
 use Rattle.ct_lun.specs.declared.slot.Slot.{Slot}
 use Rattle.ct_lun.specs.declared.said.Entered.{Entered}
 use Rattle.ct_lun.specs.declared.said.Entered.TheVariants as entered
 use Rattle.ct_lun.specs.Apart.{Each}
 use Rattle.ct_lun.specs.Desk.{Desk, slot_of}
 use Rattle.ct_lun.specs.States.{command_in, command_by, at_a, task_in, tasks_in, state_of}
-use Rattle.ct_lun.specs.Agreement.{SlotAgrees, IsFresh, IsLeft, Agrees, AgreesWith}
-use Rattle.ct_lun.specs.Rooms.{room_at, task_room, room_of}
+use Rattle.ct_lun.specs.Agreement.{SlotAgrees, IsFresh, Agrees, AgreesWith}
+use Rattle.ct_lun.specs.Rooms.{task_room, room_of}
 use Rattle.ct_lun.specs.Calls.{Wrote, Does, entered_as, told, replied}
 use Rattle.ct_lun.proofs.Lists.{map_push, each_step, same_number, sum_push}
-use Rattle.ct_lun.proofs.Effects.{wrote_then, after_told, after_one, answered_here, came_here}
-use Rattle.ct_lun.proofs.Does.{does_nothing}
-use Rattle.ct_lun.proofs.Enters.{cause_known, entered_state, command_known, numbered_map}
+use Rattle.ct_lun.proofs.Effects.{after_told, after_one, answered_here, came_here}
+use Rattle.ct_lun.proofs.Enters.{cause_known, entered_state}
 
 -- what stood under older numbers stays
 

@@ -1,13 +1,11 @@
 -- A waiting command begins, or is over at once; and steps.
-use Rattle.std.proofs.Common.{◌≡◌, ℕ, zero, suc, ◌+◌, ◌-◌, ◌*◌, ◌<◌, ◌≤◌, List, [], ◌∷◌, ◌++◌, Bool, true, false, not, ◌==◌, Option, Some, None, IsSome, IfSome, option_map, length, map, slice_get, slice_set, remove, if◌then◌else◌, refl, sym, ap, ◌∙◌, subst, arith}
-use Rattle.std.specs.List.{list_any, find}
-use Rattle.std.proofs.lemmas.Bool.{cases_Bool, false≢true}
+use Rattle.std.proofs.Common.{◌≡◌, ℕ, ◌<◌, List, [], ◌∷◌, ◌++◌, true, false, Option, Some, None, length, map, slice_set, if◌then◌else◌, refl, sym, ap, ◌∙◌, subst, arith}
+use Rattle.std.specs.List.{list_any}
+use Rattle.std.proofs.lemmas.Bool.{false≢true}
 use Rattle.std.proofs.lemmas.List.{get_or-set_same}
 use Rattle.ct_word.specs.Nexuses.{no_nexuses}
 use Rattle.ct_sense.specs.declared.reply.Reply.{Reply}
 use Rattle.ct_plan.specs.declared.operation.BlockOp.{BlockOp}
-use Rattle.ct_matrix.specs.declared.held.HeldCommand.{HeldCommand}
-use Rattle.ct_matrix.specs.Queues.{TaskSet, command_of, blocker_of, next_ready_of, first_begun_of, number_of as number_held}
 use Rattle.ct_book.specs.declared.work.Command.{Command}
 use Rattle.ct_book.specs.declared.event.Event.TheVariants as event
 use Rattle.ct_book.specs.declared.event.Logged.{Logged}
@@ -16,28 +14,24 @@ use Rattle.ct_exec.specs.declared.refusal.Refusal.{Refusal}
 use Rattle.ct_exec.specs.Controls.{ControlState, Disk}
 use Rattle.ct_exec.specs.Executions.{Execution, execute, executed, refusal_of, refused_control, plan_in}
 use Rattle.ct_exec.specs.Refusals.{refused_reply}
-use Rattle.ct_machine.specs.declared.act.Answer.{Answer}
 use Rattle.ct_machine.specs.declared.act.Answer.TheVariants as answer
-use Rattle.ct_machine.specs.States.{Stage, Waiting, Here, Task, Arrival, State, disk_of, task_of, arrival_of, at_stage, task_set_of, held_of, is_moving, is_waiting, has_begun}
-use Rattle.ct_machine.specs.Events.{after, after_events}
-use Rattle.ct_machine.specs.Acts.{Done, Turn, followed, says, replies, ends, moved, moved_answer, moving_from, line_by, ending_at_once, clearing_all, numbers_of, beginning, stepping_at, stepping, beginning_unless, blocked_by, first_moving, first_some, next_step, stepping_next}
+use Rattle.ct_machine.specs.States.{Here, Task, Arrival, State, disk_of, arrival_of}
+use Rattle.ct_machine.specs.Acts.{Turn, followed, says, replies, ends, moved_answer, moving_from, line_by, ending_at_once, clearing_all, numbers_of, beginning}
 use Rattle.ct_lun.specs.declared.slot.Slot.{Slot}
 use Rattle.ct_lun.specs.declared.said.Stepped.{Stepped}
 use Rattle.ct_lun.specs.declared.said.Stepped.TheVariants as stepped
-use Rattle.ct_lun.specs.Apart.{Each}
-use Rattle.ct_lun.specs.Desk.{Desk, slot_at, slot_of, blank, with_control}
-use Rattle.ct_lun.specs.States.{at_a, command_in, stage_of, task_in, tasks_in, state_of}
-use Rattle.ct_lun.specs.Agreement.{SlotAgrees, IsFresh, IsLeft, Agrees, AgreesWith}
+use Rattle.ct_lun.specs.Desk.{Desk, slot_at, blank, with_control}
+use Rattle.ct_lun.specs.States.{at_a, command_in, task_in, state_of}
+use Rattle.ct_lun.specs.Agreement.{IsFresh, IsLeft, Agrees, AgreesWith}
 use Rattle.ct_lun.specs.Calls.{Leaves, EndsAtOnce, Wrote, Spends, Does, closed_book, told, replied, said}
 use Rattle.ct_lun.specs.Rooms.{room_of}
-use Rattle.ct_lun.specs.Acts.{going, beginning_by, stepping_by, step_of, next_of}
-use Rattle.ct_lun.proofs.Lists.{slot_read, each_drop, each_put}
-use Rattle.ct_lun.proofs.Tasks.{no_task}
-use Rattle.ct_lun.proofs.Keeps.{slot_agrees, task_found, held_found}
+use Rattle.ct_lun.specs.Acts.{going, beginning_by}
+use Rattle.ct_lun.proofs.Lists.{each_drop, each_put}
+use Rattle.ct_lun.proofs.Keeps.{slot_agrees}
 use Rattle.ct_lun.proofs.Turns.{moving_same, ended_answer, ends_ended, clearing_all_none}
-use Rattle.ct_lun.proofs.Effects.{at_once_wrote, stage_begun, stage_waits}
+use Rattle.ct_lun.proofs.Effects.{at_once_wrote}
 use Rattle.ct_lun.proofs.Spent.{SameRoom, left_spends}
-use Rattle.ct_lun.proofs.Does.{does_from, does_nothing, does_same, does_then}
+use Rattle.ct_lun.proofs.Does.{does_from, does_then}
 
 -- over at once
 

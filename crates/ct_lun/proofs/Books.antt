@@ -1,5 +1,5 @@
 -- What may be written into the book of a unit.
-use Rattle.std.proofs.Common.{◌≡◌, ℕ, List, [], ◌∷◌, Bool, true, false, Option, Some, None, IsSome, IsSomeAnd, Result, Ok, Err, ◌<◌, length, slice_set, refl, sym, ap, ◌∙◌, subst, ◌-◌}
+use Rattle.std.proofs.Common.{◌≡◌, ℕ, List, Bool, true, false, Option, Some, None, IsSome, IsSomeAnd, Result, Ok, Err, ◌<◌, length, refl, sym, ap, ◌∙◌, subst}
 use Rattle.ct_word.specs.Nexuses.{no_nexuses}
 use Rattle.ct_cdb.specs.declared.op.Cdb.{Cdb}
 use Rattle.ct_cdb.specs.declared.op.CdbFault.{CdbFault}
@@ -11,14 +11,10 @@ use Rattle.ct_sense.specs.declared.reply.Reply.{Reply}
 use Rattle.ct_matrix.specs.declared.held.HeldCommand.{HeldCommand}
 use Rattle.ct_matrix.specs.Queues.{command_of}
 use Rattle.ct_book.specs.declared.event.Event.{Event}
-use Rattle.ct_book.specs.declared.work.Work.TheVariants as work
-use Rattle.ct_book.specs.Journals.{KeptWork, BookState, numbered, is_command, with_reply, reply_of}
+use Rattle.ct_book.specs.Journals.{KeptWork, BookState, numbered, is_command, with_reply}
 use Rattle.ct_book.specs.Kept.{IsCommandNo, CanBePushed}
-use Rattle.ct_machine.specs.States.{Task, Stage, Waiting, held_of, has_begun}
-use Rattle.ct_lun.specs.declared.slot.Slot.{Slot}
 use Rattle.ct_lun.specs.Desk.{Desk, slot_at}
-use Rattle.ct_lun.specs.States.{command_in, task_in, stage_of}
-use Rattle.ct_lun.specs.Agreement.{SlotAgrees, Agrees}
+use Rattle.ct_lun.specs.Agreement.{Agrees}
 use Rattle.ct_lun.specs.Calls.{IsOver, by_end, by_medium}
 use Rattle.ct_lun.proofs.Keeps.{slot_agrees, held_found}
 use Rattle.ct_lun.proofs.Tasks.{begun_stage}

@@ -1,46 +1,38 @@
 -- What the calls of a unit do, composed of their events.
-use Rattle.std.proofs.Common.{◌≡◌, ℕ, zero, suc, ◌+◌, ◌-◌, ◌*◌, ◌<◌, ◌≤◌, List, [], ◌∷◌, ◌++◌, Bool, true, false, nat_le, nat_lt, ◌==◌, nat_eq, Option, Some, None, IsSome, IfSome, is_some, option_map, length, map, take, drop, slice_get, slice_set, remove, get_or, if◌then◌else◌, refl, sym, ap, ◌∙◌, subst, arith, length-append}
+use Rattle.std.proofs.Common.{◌≡◌, ℕ, zero, suc, ◌+◌, ◌<◌, ◌≤◌, List, [], ◌++◌, Bool, true, false, nat_le, ◌==◌, Option, Some, None, IsSome, length, take, drop, if◌then◌else◌, refl, sym, ap, ◌∙◌, subst, arith, length-append}
 use Rattle.std.specs.List.{list_any}
 use Rattle.std.proofs.lemmas.Bool.{false≢true}
 use Rattle.std.proofs.lemmas.Bool.Decides.{nat_tests}
 use Rattle.std.proofs.lemmas.List.{append-nil, get_or-set_same, length-set, length-drop}
-use Rattle.ct_word.specs.Nexuses.{no_nexuses}
-use Rattle.ct_sense.specs.declared.reply.Reply.{Reply}
 use Rattle.ct_plan.specs.declared.operation.BlockOp.{BlockOp}
 use Rattle.ct_plan.specs.declared.task.Task.{Task as PlanTask}
 use Rattle.ct_plan.specs.declared.task.Piece.{Piece}
 use Rattle.ct_plan.specs.declared.task.PieceEnd.{PieceEnd}
-use Rattle.ct_plan.specs.declared.task.PieceEnd.TheVariants.{All, ReadFault, WriteFault}
-use Rattle.ct_plan.specs.Plans.{puts_among}
+use Rattle.ct_plan.specs.declared.task.PieceEnd.TheVariants.{All}
 use Rattle.ct_plan.specs.Cells.{Cells, performed}
-use Rattle.ct_plan.specs.Pieces.{Advances, fault_in, fault_behind, is_fault, end_of, unfailed_end}
-use Rattle.ct_plan.proofs.Lists.{slice_get-drop, slice_get-take}
-use Rattle.ct_book.specs.declared.event.Event.{Event}
+use Rattle.ct_plan.specs.Pieces.{Advances, fault_in, fault_behind, end_of}
 use Rattle.ct_book.specs.declared.event.Event.TheVariants as event
 use Rattle.ct_book.specs.declared.event.Why.TheVariants.{Medium}
 use Rattle.ct_book.specs.declared.event.Logged.{Logged}
-use Rattle.ct_book.specs.Journals.{KeptWork, BookState}
-use Rattle.ct_exec.specs.Controls.{ControlState}
-use Rattle.ct_exec.specs.Executions.{Execution, good, reply_failed, execute, executed, refusal_of, refused_control, plan_in}
+use Rattle.ct_book.specs.Journals.{BookState}
+use Rattle.ct_exec.specs.Executions.{plan_in}
 use Rattle.ct_machine.specs.declared.act.Answer.{Answer}
 use Rattle.ct_machine.specs.declared.act.Answer.TheVariants as answer
-use Rattle.ct_machine.specs.States.{Stage, Waiting, Here, Task, State, task_of, arrival_of, at_stage, disk_of}
-use Rattle.ct_machine.specs.Events.{after, after_events}
-use Rattle.ct_machine.specs.Acts.{Done, Turn, tried, followed, says, ends, moved, moved_answer, moved_to, moving_on, moving_from, line_by, ending_at_once, clearing_all, numbers_of, beginning}
+use Rattle.ct_machine.specs.Events.{after_events}
+use Rattle.ct_machine.specs.Acts.{Done, tried, ends, moved_answer, moving_on, moving_from}
 use Rattle.ct_lun.specs.declared.slot.Slot.{Slot}
 use Rattle.ct_lun.specs.Apart.{Each}
-use Rattle.ct_lun.specs.Desk.{Desk, slot_at, blank, with_control}
-use Rattle.ct_lun.specs.States.{command_in, stage_of, task_in, tasks_in, state_of}
+use Rattle.ct_lun.specs.Desk.{Desk, slot_at, blank}
+use Rattle.ct_lun.specs.States.{command_in, task_in, state_of}
 use Rattle.ct_lun.specs.Agreement.{SlotAgrees, IsLeft, Agrees, AgreesWith}
-use Rattle.ct_lun.specs.Rooms.{room_of}
 use Rattle.ct_lun.specs.Acts.{going}
-use Rattle.ct_lun.specs.Calls.{Goes, Leaves, EndsAtOnce, Wrote, Spends, Does, IsOver, by_end, by_medium, closed_book, moved_book, moved_journal, told, replied}
-use Rattle.ct_lun.proofs.Lists.{slot_read, each_at, each_drop, each_put, remove_set}
+use Rattle.ct_lun.specs.Calls.{Goes, Wrote, Spends, Does, IsOver, by_end, by_medium, moved_book, moved_journal}
+use Rattle.ct_lun.proofs.Lists.{slot_read, each_at, each_put}
 use Rattle.ct_lun.proofs.Keeps.{slot_agrees}
-use Rattle.ct_lun.proofs.Turns.{moving_at, moving_on_state, part_journal, end_journal, cut_journal, moving_same, moved_says, ended_answer, part_answer, ends_ended, ends_cut, clearing_all_none, Made}
-use Rattle.ct_lun.proofs.Effects.{wrote_then, over_wrote, at_once_wrote}
-use Rattle.ct_lun.proofs.Moves.{slot_cells, slot_progress, slot_made, moved_wrote, moved_few, moved_fewer}
-use Rattle.ct_lun.proofs.Spent.{SameRoom, left_spends, moved_spends}
+use Rattle.ct_lun.proofs.Turns.{moving_at, part_journal, part_answer}
+use Rattle.ct_lun.proofs.Effects.{wrote_then}
+use Rattle.ct_lun.proofs.Moves.{slot_cells, slot_progress, slot_made, moved_wrote, moved_fewer}
+use Rattle.ct_lun.proofs.Spent.{moved_spends}
 
 -- what a call wrote, as what the machine does
 pub does_from : (d d' : Desk) (p p' : BookState) (outcome : Option ℕ → Done) (fault : Option ℕ) (es : List Logged) (said : Answer) → Wrote d d' p p' es → Spends d d' p p' (length es) → Each IsLeft d'.slots

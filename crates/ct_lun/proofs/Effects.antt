@@ -1,39 +1,28 @@
 -- The state behind each event that a unit writes, and the room that is left.
-use Rattle.std.proofs.Common.{◌≡◌, ℕ, zero, suc, ◌+◌, ◌-◌, ◌*◌, ◌<◌, ◌≤◌, List, [], ◌∷◌, ◌++◌, Bool, true, false, ◌&&◌, ◌==◌, Option, Some, None, option_and_then, length, map, take, drop, slice_get, slice_set, remove, sum_by, if◌then◌else◌, refl, sym, ap, ◌∙◌, subst, arith, append_assoc, length-append}
-use Rattle.std.proofs.lemmas.Bool.{false≢true}
-use Rattle.std.proofs.lemmas.List.{append-nil, set-get_or}
-use Rattle.ct_word.specs.declared.names.Node.TheVariants.{A}
+use Rattle.std.proofs.Common.{◌≡◌, ℕ, zero, suc, ◌-◌, ◌<◌, List, [], ◌∷◌, ◌++◌, Bool, true, false, Option, Some, None, option_and_then, length, map, slice_get, slice_set, refl, sym, ap, ◌∙◌, arith, append_assoc, length-append}
+use Rattle.std.proofs.lemmas.List.{append-nil}
 use Rattle.ct_word.specs.Nexuses.{no_nexuses}
 use Rattle.ct_sense.specs.declared.reply.Reply.{Reply}
-use Rattle.ct_plan.specs.declared.operation.BlockOp.{BlockOp}
-use Rattle.ct_plan.specs.declared.task.Piece.{Piece}
-use Rattle.ct_plan.specs.Cells.{Cells, after_all}
-use Rattle.ct_plan.specs.Tasks.{cells_of}
-use Rattle.ct_plan.specs.Pieces.{fault_in}
 use Rattle.ct_matrix.specs.Queues.{TaskSet, with_begun}
-use Rattle.ct_book.specs.declared.work.Work.TheVariants as work
 use Rattle.ct_book.specs.declared.event.Event.{Event}
 use Rattle.ct_book.specs.declared.event.Event.TheVariants as event
 use Rattle.ct_book.specs.declared.event.Kind2.TheVariants as kind
-use Rattle.ct_book.specs.declared.event.Why.TheVariants.{By, Medium}
+use Rattle.ct_book.specs.declared.event.Why.TheVariants.{Medium}
 use Rattle.ct_book.specs.declared.event.Logged.{Logged}
 use Rattle.ct_book.specs.Journals.{KeptWork, BookState, numbered, with_event, with_reply, reply_in, told_in}
-use Rattle.ct_book.proofs.Places.{numbered-place}
 use Rattle.ct_exec.specs.Controls.{ControlState, tells_aborts, is_unrestricted}
-use Rattle.ct_exec.specs.Executions.{Execution, execute, plan_in}
-use Rattle.ct_machine.specs.States.{Stage, Waiting, Here, Task, Message, Arrival, State, disk_of, arrival_of, task_of, without_task, with_task, at_stage, is_b}
-use Rattle.ct_machine.specs.Events.{after, after_events, after_event, after_moved, moved_at, cells_after, staged, ended_at, cut_at, answered, message, came_at_b, leaves, stops_with, is_cleared, to_b_if}
+use Rattle.ct_exec.specs.Executions.{Execution, execute}
+use Rattle.ct_machine.specs.States.{Stage, Waiting, Here, Task, Message, State, disk_of, arrival_of, task_of, without_task, with_task, at_stage}
+use Rattle.ct_machine.specs.Events.{after, after_events, after_event, ended_at, cut_at, answered, came_at_b, leaves, stops_with}
 use Rattle.ct_lun.specs.declared.slot.Slot.{Slot}
-use Rattle.ct_lun.specs.Apart.{Each}
 use Rattle.ct_lun.specs.Desk.{Desk, slot_at, with_control}
 use Rattle.ct_lun.specs.States.{command_in, stage_of, task_in, tasks_in, at_a, state_of}
 use Rattle.ct_lun.specs.Agreement.{SlotAgrees, IsFresh, Agrees}
-use Rattle.ct_lun.specs.Rooms.{room_at, task_room, room_of}
-use Rattle.ct_lun.specs.Calls.{Goes, Leaves, Wrote, Spends, IsOver, by_end, by_medium, closed_book, told, replied, moved_journal}
-use Rattle.ct_lun.proofs.Lists.{slot_read, map_set, map_remove, map_same, sum_set, sum_remove, get_set}
-use Rattle.ct_lun.proofs.Tasks.{task_at, without_at, with_at}
-use Rattle.ct_lun.proofs.Keeps.{slot_agrees, task_found, positive, get_map, agrees_left, agrees_begun, agrees_moved, agrees_control}
-use Rattle.ct_lun.proofs.Turns.{Made, made_by, piece_progress, nothing_cleared, and_false}
+use Rattle.ct_lun.specs.Calls.{Leaves, Wrote, IsOver, by_end, by_medium, closed_book, told, replied}
+use Rattle.ct_lun.proofs.Lists.{slot_read, get_set}
+use Rattle.ct_lun.proofs.Tasks.{without_at, with_at}
+use Rattle.ct_lun.proofs.Keeps.{slot_agrees, task_found, agrees_left, agrees_begun, agrees_control}
+use Rattle.ct_lun.proofs.Turns.{nothing_cleared}
 
 -- two calls, one after the other
 after_append : (s : State) (es fs : List Logged) → after_events s (es ++ fs) ≡ after_events (after_events s es) fs

@@ -1,14 +1,11 @@
 -- A command enters the task set, or is refused at its arrival.
-use Rattle.std.proofs.Common.{◌≡◌, ◌≢◌, ℕ, zero, suc, ◌+◌, ◌-◌, ◌*◌, ◌<◌, ◌≤◌, List, [], ◌∷◌, ◌++◌, Bool, true, false, not, ◌&&◌, ◌||◌, ◌==◌, nat_le, nat_lt, inl, inr, Option, Some, None, IsNone, IsSomeAnd, IfSome, Result, Ok, Err, unwrap_or, length, map, slice_get, slice_set, insert, drop, sum_by, if◌then◌else◌, refl, sym, ap, ◌∙◌, subst, arith, length-append}
+use Rattle.std.proofs.Common.{◌≡◌, ℕ, zero, suc, ◌+◌, ◌-◌, ◌*◌, ◌<◌, ◌≤◌, List, [], ◌∷◌, ◌++◌, Bool, true, false, ◌||◌, ◌==◌, inl, inr, Option, Some, None, IsNone, IsSomeAnd, Result, Ok, Err, length, map, slice_set, insert, sum_by, if◌then◌else◌, refl, sym, ap, ◌∙◌, subst, arith, length-append}
 use Rattle.std.specs.List.{list_any, All}
 use Rattle.std.proofs.lemmas.Bool.{cases_Bool, false≢true}
 use Rattle.std.proofs.lemmas.List.{length-map}
 use Rattle.std.proofs.lemmas.List.Edits.{length-insert}
 use Rattle.std.proofs.lemmas.List.Elements.{All-nil}
-use Rattle.ct_word.specs.declared.names.Nexus.{Nexus}
-use Rattle.ct_word.specs.declared.names.Tag.{Tag}
 use Rattle.ct_word.specs.declared.names.Node.TheVariants.{A}
-use Rattle.ct_word.specs.Nexuses.{is_same_nexus}
 use Rattle.ct_word.specs.Kept.{Kept}
 use Rattle.ct_cdb.specs.declared.op.Attr2.{Attr2}
 use Rattle.ct_cdb.specs.declared.op.Cdb.{Cdb}
@@ -16,10 +13,8 @@ use Rattle.ct_cdb.specs.declared.op.CdbFault.{CdbFault}
 use Rattle.ct_cdb.specs.declared.op.Op.{Op}
 use Rattle.ct_cdb.specs.declared.op.Op.TheVariants.{Read10, Write10}
 use Rattle.ct_cdb.specs.Forms.{cdb_of}
-use Rattle.ct_cdb.specs.Asked.{asked_of}
 use Rattle.ct_cdb.specs.Performed.{is_performed}
 use Rattle.ct_sense.specs.declared.reply.Reply.{Reply}
-use Rattle.ct_sense.specs.declared.reply.Status.TheVariants.{Busy, TaskSetFull}
 use Rattle.ct_pool.specs.Leases.{PoolState, LeaseState, IsLeaseOf, Takes, blocks_at, blocks_of}
 use Rattle.ct_plan.specs.declared.operation.BlockOp.{BlockOp}
 use Rattle.ct_plan.specs.declared.task.Task.{Task as PlanTask}
@@ -33,23 +28,22 @@ use Rattle.ct_matrix.specs.Queues.{TaskSet, placed, command_of}
 use Rattle.ct_book.specs.declared.work.Command.{Command}
 use Rattle.ct_book.specs.declared.work.Work.TheVariants as work
 use Rattle.ct_book.specs.declared.event.Event.TheVariants as event
-use Rattle.ct_book.specs.declared.event.Logged.{Logged}
 use Rattle.ct_book.specs.Works.{IsReady as IsFilled, room_for, room_in, data_room}
-use Rattle.ct_book.specs.Journals.{KeptWork, BookState, numbered, is_command, with_event, with_reply, without_body, reply_in, told_in}
+use Rattle.ct_book.specs.Journals.{KeptWork, BookState, numbered, is_command, with_event, with_reply, without_body}
 use Rattle.ct_book.specs.Kept.{IsCommandNo, IsBodyOf}
 use Rattle.ct_book.proofs.Places.{numbered-apart}
-use Rattle.ct_exec.specs.Executions.{check_condition, plan_in, plan_by, need_in}
-use Rattle.ct_machine.specs.States.{Stage, Waiting, Task, Arrival, State, task_set_of, held_of, held_by, queued, free_blocks, arrival_of, task_of}
-use Rattle.ct_machine.specs.Events.{after, after_events, after_event, after_enter, new_task}
-use Rattle.ct_machine.specs.Acts.{is_overlapped, turned_cause, with_status, entering, entering_with}
+use Rattle.ct_exec.specs.Executions.{plan_in, plan_by, need_in}
+use Rattle.ct_machine.specs.States.{Task, Arrival, held_of, held_by, queued, free_blocks}
+use Rattle.ct_machine.specs.Events.{after_event, after_enter, new_task}
+use Rattle.ct_machine.specs.Acts.{is_overlapped, turned_cause, entering, entering_with}
 use Rattle.ct_lun.specs.declared.slot.Slot.{Slot}
 use Rattle.ct_lun.specs.Apart.{Each, Differs, IsApart}
 use Rattle.ct_lun.specs.Desk.{Desk, number_of, key_of, slot_of, waiting_from, placed_slot}
 use Rattle.ct_lun.specs.States.{command_in, command_by, at_a, task_in, tasks_in, state_of}
-use Rattle.ct_lun.specs.Agreement.{SlotAgrees, IsFresh, IsLeft, Agrees, AgreesWith}
+use Rattle.ct_lun.specs.Agreement.{SlotAgrees, IsLeft, Agrees, AgreesWith}
 use Rattle.ct_lun.specs.Overlaps.{is_overlapped_by, cause_by}
 use Rattle.ct_lun.specs.Calls.{Wrote, told, replied}
-use Rattle.ct_lun.proofs.Lists.{turned, equal_number, same_number, each_step, each_differs, each_push, each_insert, apart_push, apart_insert, map_push, map_insert, sum_push, sum_insert, waiting_within}
+use Rattle.ct_lun.proofs.Lists.{same_number, each_step, each_differs, each_push, each_insert, apart_push, apart_insert, map_push, map_insert, sum_push, sum_insert, waiting_within}
 use Rattle.ct_lun.proofs.Tasks.{held_queued, slots_queued, no_task, held_none}
 use Rattle.ct_lun.proofs.Keeps.{get_map, slot_stays, set_is, other_number, positive}
 use Rattle.ct_lun.proofs.Effects.{came_here, answered_here, reply_kept, after_one, after_told}
@@ -300,8 +294,8 @@ entry_fresh d p number a none =
     rw absent refl
 
 -- the empty list that was taken for a command
-pub body_known : (p : BookState) (number : ℕ) (body : Kept ℕ) → IsCommandNo p number → IfSome (numbered number p.works) (λ came. IsBodyOf came body) → IsFilled (command_in p.works number) body
-body_known p number body command ready = subst (λ (o : Option KeptWork). IfSome o (λ came. IsBodyOf came body)) (command_known p number command) ready
+pub body_known : (p : BookState) (number : ℕ) (body : Kept ℕ) → IsCommandNo p number → IsSomeAnd (numbered number p.works) (λ came. IsBodyOf came body) → IsFilled (command_in p.works number) body
+body_known p number body command ready = subst (λ (o : Option KeptWork). IsSomeAnd o (λ came. IsBodyOf came body)) (command_known p number command) ready
 
 pub entered_left : (d d' : Desk) (p : BookState) (attr : Attr2) (slot : Slot) → AgreesWith d p → d'.slots ≡ placed_slot attr slot d.slots → slot.begun ≡ false → Each IsLeft d'.slots
 entered_left d d' p attr slot a slots waits = rw slots (each_placed IsLeft attr slot d.slots a.left (λ begun. absurd (false≢true (sym waits ∙ begun))))

@@ -1,30 +1,27 @@
 -- The agreement of a unit and its book stays, whatever changes.
-use Rattle.std.proofs.Common.{◌≡◌, ◌≢◌, ℕ, zero, suc, ◌+◌, ◌-◌, ◌*◌, ◌<◌, ◌≤◌, List, [], ◌∷◌, ◌++◌, Bool, true, false, ◌==◌, Option, Some, None, IsSomeAnd, unwrap_or, length, map, slice_get, slice_set, remove, sum_by, refl, sym, ap, ◌∙◌, subst, arith}
+use Rattle.std.proofs.Common.{◌≡◌, ℕ, zero, suc, ◌+◌, ◌-◌, ◌<◌, List, [], ◌∷◌, Bool, true, false, ◌==◌, Option, Some, unwrap_or, length, map, slice_get, slice_set, remove, sum_by, refl, sym, ap, ◌∙◌, arith}
 use Rattle.std.proofs.lemmas.Bool.{false≢true}
 use Rattle.std.proofs.lemmas.List.{length-set}
 use Rattle.std.proofs.lemmas.List.Edits.{length-remove}
 use Rattle.ct_sense.specs.declared.reply.Reply.{Reply}
-use Rattle.ct_pool.specs.Leases.{PoolState, LeaseState, IsLeaseOf, Holds, KeepsOthers, blocks_at, blocks_of, leases_out, Gives, Takes}
+use Rattle.ct_pool.specs.Leases.{PoolState, LeaseState, IsLeaseOf, KeepsOthers, blocks_at}
 use Rattle.ct_plan.specs.declared.task.Task.{Task as PlanTask}
 use Rattle.ct_plan.specs.declared.task.Piece.{Piece}
 use Rattle.ct_plan.specs.Tasks.{IsReady}
-use Rattle.ct_plan.specs.Pieces.{Uses}
 use Rattle.ct_matrix.specs.declared.held.HeldCommand.{HeldCommand}
-use Rattle.ct_matrix.specs.Queues.{TaskSet, command_of, without, with_begun, placed}
-use Rattle.ct_book.specs.declared.work.Command.{Command}
+use Rattle.ct_matrix.specs.Queues.{TaskSet, command_of, without, with_begun}
 use Rattle.ct_book.specs.declared.work.Work.TheVariants as work
 use Rattle.ct_book.specs.Journals.{KeptWork, BookState, numbered}
 use Rattle.ct_book.proofs.Places.{numbered-apart, numbered-place}
 use Rattle.ct_exec.specs.Controls.{ControlState, is_unrestricted}
 use Rattle.ct_exec.specs.Executions.{need_in}
-use Rattle.ct_machine.specs.States.{Task, task_set_of, held_of, task_of}
+use Rattle.ct_machine.specs.States.{Task, held_of, task_of}
 use Rattle.ct_lun.specs.declared.slot.Slot.{Slot}
-use Rattle.ct_lun.specs.Apart.{Each, IsApart}
 use Rattle.ct_lun.specs.Desk.{Desk, slot_at, number_of, key_of, with_control}
 use Rattle.ct_lun.specs.States.{command_in, task_in, tasks_in, state_of}
-use Rattle.ct_lun.specs.Agreement.{SlotAgrees, IsFresh, Agrees}
+use Rattle.ct_lun.specs.Agreement.{SlotAgrees, Agrees}
 use Rattle.ct_lun.specs.Calls.{Goes, Leaves}
-use Rattle.ct_lun.proofs.Lists.{equal_number, slot_read, each_at, each_set, each_remove, each_step, apart_remove, map_set, map_remove, map_same, sum_set, sum_remove}
+use Rattle.ct_lun.proofs.Lists.{equal_number, slot_read, each_at, each_set, each_remove, apart_remove, map_set, map_remove, map_same, sum_set, sum_remove}
 use Rattle.ct_lun.proofs.Tasks.{task_at, held_at, held_without, without_at, begun_at, begun_stage}
 
 -- a slot, where other things change

@@ -12,3 +12,4 @@ pub mod Begins
 pub mod Steps
 pub mod Enters
 pub mod Arrivals
+pub mod Opens

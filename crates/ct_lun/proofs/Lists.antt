@@ -1,14 +1,11 @@
 -- Plain lists: facts of each item, numbers that stand once, sums, and one item replaced, taken out or put in.
-use Rattle.std.proofs.Common.{◌≡◌, ℕ, zero, suc, ◌+◌, ◌-◌, ◌<◌, ◌≤◌, List, [], ◌∷◌, ◌++◌, Bool, true, false, not, ◌==◌, inl, inr, Option, Some, None, length, map, get_or, slice_get, slice_set, insert, remove, take, drop, sum_by, refl, sym, ap, ◌∙◌, subst, arith, length-append}
-use Rattle.std.specs.List.{position_or_len, find}
-use Rattle.std.proofs.lemmas.Bool.{cases_Bool, false≢true}
+use Rattle.std.proofs.Common.{◌≡◌, ℕ, zero, suc, ◌+◌, ◌<◌, ◌≤◌, List, [], ◌∷◌, ◌++◌, true, false, not, ◌==◌, Some, length, map, slice_get, slice_set, insert, remove, sum_by, refl, sym, ap, ◌∙◌, subst, arith}
 use Rattle.std.proofs.lemmas.Bool.Decides.{nat_tests}
-use Rattle.std.proofs.lemmas.List.Sums.{sum_by-cons, sum_by-append, prefix_len-le-length}
-use Rattle.std.proofs.lemmas.List.Folds.{find_at}
+use Rattle.std.proofs.lemmas.List.Sums.{sum_by-cons, prefix_len-le-length}
 use Rattle.std.proofs.lemmas.Option.{slice_get-get_or}
 use Rattle.ct_lun.specs.declared.slot.Slot.{Slot}
 use Rattle.ct_lun.specs.Apart.{Each, Differs, IsApart}
-use Rattle.ct_lun.specs.Desk.{blank, slot_at, slot_of, place_of, waiting_from}
+use Rattle.ct_lun.specs.Desk.{blank, slot_at, place_of, waiting_from}
 
 pub turned : (a b : ℕ) → (a == b) ≡ false → (b == a) ≡ false
 turned a b h = grind (arith, nat_tests)

@@ -1,15 +1,11 @@
 -- A command that began goes on.
-use Rattle.std.proofs.Common.{◌≡◌, ℕ, zero, suc, ◌+◌, ◌-◌, ◌*◌, ◌<◌, ◌≤◌, List, [], ◌∷◌, ◌++◌, Bool, true, false, nat_le, ◌==◌, Option, Some, None, length, map, take, drop, slice_get, slice_set, refl, sym, ap, ◌∙◌, subst, arith}
-use Rattle.std.proofs.lemmas.Bool.Decides.{nat_tests}
-use Rattle.std.proofs.lemmas.List.{append-nil}
+use Rattle.std.proofs.Common.{◌≡◌, ℕ, zero, suc, ◌+◌, ◌<◌, ◌≤◌, List, true, Option, None, length, take, drop, slice_set, refl, sym, ap, ◌∙◌, arith}
 use Rattle.ct_plan.specs.declared.operation.BlockOp.{BlockOp}
 use Rattle.ct_plan.specs.declared.task.Piece.{Piece}
-use Rattle.ct_plan.specs.Cells.{Cells, Progress, performed, after_all}
+use Rattle.ct_plan.specs.Cells.{Cells, performed, after_all}
 use Rattle.ct_plan.specs.Tasks.{cells_of}
 use Rattle.ct_plan.specs.Pieces.{fault_in}
-use Rattle.ct_book.specs.declared.event.Event.TheVariants as event
-use Rattle.ct_book.specs.declared.event.Logged.{Logged}
-use Rattle.ct_book.specs.Journals.{KeptWork, BookState}
+use Rattle.ct_book.specs.Journals.{BookState}
 use Rattle.ct_exec.specs.Executions.{plan_in}
 use Rattle.ct_machine.specs.States.{Stage, Here, Task, State, task_of, with_task, at_stage}
 use Rattle.ct_machine.specs.Events.{after, after_events, after_moved, moved_at, cells_after}
@@ -19,9 +15,9 @@ use Rattle.ct_lun.specs.Desk.{Desk, slot_at}
 use Rattle.ct_lun.specs.States.{command_in, stage_of, task_in, tasks_in, state_of}
 use Rattle.ct_lun.specs.Agreement.{SlotAgrees, Agrees}
 use Rattle.ct_lun.specs.Calls.{Goes, Wrote, moved_journal, moved_book}
-use Rattle.ct_lun.proofs.Lists.{slot_read, map_set, map_same}
+use Rattle.ct_lun.proofs.Lists.{slot_read, map_same}
 use Rattle.ct_lun.proofs.Tasks.{with_at}
-use Rattle.ct_lun.proofs.Keeps.{slot_agrees, task_found, get_map, agrees_moved}
+use Rattle.ct_lun.proofs.Keeps.{slot_agrees, task_found, agrees_moved}
 use Rattle.ct_lun.proofs.Turns.{Made, made_by, piece_progress}
 use Rattle.ct_lun.proofs.Effects.{stage_begun}
 

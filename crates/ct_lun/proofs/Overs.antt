@@ -1,15 +1,13 @@
 -- A command that moves to its end or to a fault, and one that is over when it would begin.
-use Rattle.std.proofs.Common.{◌≡◌, ℕ, zero, suc, ◌+◌, ◌-◌, ◌*◌, ◌<◌, ◌≤◌, List, [], ◌∷◌, ◌++◌, Bool, true, false, nat_le, ◌==◌, Option, Some, None, IsSome, IfSome, length, map, take, drop, slice_get, slice_set, remove, if◌then◌else◌, refl, sym, ap, ◌∙◌, subst, arith, length-append}
+use Rattle.std.proofs.Common.{◌≡◌, ℕ, ◌+◌, ◌<◌, ◌≤◌, List, [], ◌∷◌, ◌++◌, true, false, nat_le, Option, Some, None, length, take, drop, slice_get, refl, sym, ap, ◌∙◌, subst, arith, length-append}
 use Rattle.std.specs.List.{list_any}
 use Rattle.std.proofs.lemmas.List.{length-take, length-drop}
-use Rattle.ct_word.specs.Nexuses.{no_nexuses}
 use Rattle.ct_sense.specs.declared.reply.Reply.{Reply}
 use Rattle.ct_plan.specs.declared.operation.BlockOp.{BlockOp}
 use Rattle.ct_plan.specs.declared.task.Piece.{Piece}
 use Rattle.ct_plan.specs.declared.task.PieceEnd.{PieceEnd}
 use Rattle.ct_plan.specs.declared.task.PieceEnd.TheVariants.{All, ReadFault, WriteFault}
 use Rattle.ct_plan.specs.Plans.{puts_among}
-use Rattle.ct_plan.specs.Cells.{Cells, performed}
 use Rattle.ct_plan.specs.Pieces.{fault_in, fault_behind}
 use Rattle.ct_plan.proofs.Lists.{slice_get-drop, slice_get-take, slice_get-within}
 use Rattle.ct_book.specs.declared.event.Event.{Event}
@@ -17,28 +15,25 @@ use Rattle.ct_book.specs.declared.event.Event.TheVariants as event
 use Rattle.ct_book.specs.declared.event.Why.TheVariants.{Medium}
 use Rattle.ct_book.specs.declared.event.Logged.{Logged}
 use Rattle.ct_book.specs.Journals.{BookState}
-use Rattle.ct_exec.specs.Controls.{ControlState}
-use Rattle.ct_exec.specs.Executions.{good, reply_failed, execute, plan_in}
+use Rattle.ct_exec.specs.Executions.{good, reply_failed, plan_in}
 use Rattle.ct_machine.specs.declared.act.Answer.TheVariants as answer
-use Rattle.ct_machine.specs.States.{Task, State, arrival_of}
-use Rattle.ct_machine.specs.Events.{after_events}
-use Rattle.ct_machine.specs.Acts.{tried, ends, moved_answer, moved_to, moving_on, moving_from, line_by}
+use Rattle.ct_machine.specs.States.{State, arrival_of}
+use Rattle.ct_machine.specs.Acts.{ends, moved_answer, moved_to, moving_on, moving_from, line_by}
 use Rattle.ct_lun.specs.declared.slot.Slot.{Slot}
-use Rattle.ct_lun.specs.Apart.{Each}
 use Rattle.ct_lun.specs.Desk.{Desk, slot_at}
 use Rattle.ct_lun.specs.States.{command_in, task_in, state_of}
-use Rattle.ct_lun.specs.Agreement.{SlotAgrees, IsLeft, Agrees, AgreesWith}
+use Rattle.ct_lun.specs.Agreement.{SlotAgrees, IsLeft, AgreesWith}
 use Rattle.ct_lun.specs.Calls.{Goes, Leaves, Wrote, Spends, Does, IsOver, by_end, by_medium, closed_book, moved_book, moved_journal, replied}
 use Rattle.ct_lun.specs.Acts.{going}
 use Rattle.ct_lun.specs.declared.said.Reached.TheVariants as reached
 use Rattle.ct_lun.specs.Reached.{reached_by}
-use Rattle.ct_lun.proofs.Lists.{slot_read, each_drop, remove_set}
+use Rattle.ct_lun.proofs.Lists.{each_drop, remove_set}
 use Rattle.ct_lun.proofs.Keeps.{slot_agrees}
 use Rattle.ct_lun.proofs.Turns.{moving_at, moving_on_state, end_journal, cut_journal, moved_says, ended_answer, ends_ended, ends_cut}
 use Rattle.ct_lun.proofs.Effects.{wrote_then, over_wrote}
-use Rattle.ct_lun.proofs.Moves.{slot_cells, slot_progress, moved_wrote, moved_few, moved_fewer}
-use Rattle.ct_lun.proofs.Spent.{SameRoom, left_spends, moved_spends}
-use Rattle.ct_lun.proofs.Does.{does_from, unfaulted, gone_slot, gone_within, test_true, test_false, equal, at_end}
+use Rattle.ct_lun.proofs.Moves.{slot_progress, moved_wrote, moved_few, moved_fewer}
+use Rattle.ct_lun.proofs.Spent.{left_spends, moved_spends}
+use Rattle.ct_lun.proofs.Does.{does_from, gone_slot, gone_within, test_true, test_false, equal, at_end}
 
 over_ends : (number : ℕ) (e : Event) (reply : Reply) → IsOver number e → list_any (λ (logged : Logged). ends number logged.event) (replied e reply ∷ []) ≡ true
 over_ends number e reply by_end = ends_ended number reply

@@ -1,24 +1,23 @@
 -- The room that the state asks for falls with each event.
-use Rattle.std.proofs.Common.{◌≡◌, ℕ, zero, suc, ◌+◌, ◌-◌, ◌*◌, ◌<◌, ◌≤◌, List, [], ◌∷◌, ◌++◌, Bool, true, false, Option, Some, None, length, map, take, drop, slice_get, slice_set, remove, sum_by, refl, sym, ap, ◌∙◌, subst, arith}
+use Rattle.std.proofs.Common.{◌≡◌, ℕ, ◌+◌, ◌-◌, ◌<◌, ◌≤◌, true, false, length, slice_set, remove, sum_by, refl, ap, arith}
 use Rattle.std.proofs.lemmas.List.{length-drop}
 use Rattle.ct_plan.specs.declared.task.Piece.{Piece}
 use Rattle.ct_matrix.specs.Queues.{with_begun}
-use Rattle.ct_book.specs.Journals.{BookState, KeptWork}
+use Rattle.ct_book.specs.Journals.{BookState}
 use Rattle.ct_exec.specs.Executions.{plan_in}
-use Rattle.ct_machine.specs.States.{Stage, Waiting, Here, Granted, There, Over, Task, State}
+use Rattle.ct_machine.specs.States.{Stage, Waiting, Here, Granted, There, Over}
 use Rattle.ct_lun.specs.declared.slot.Slot.{Slot}
 use Rattle.ct_lun.specs.Desk.{Desk, slot_at}
-use Rattle.ct_lun.specs.States.{command_in, stage_of, task_in, tasks_in, state_of}
-use Rattle.ct_lun.specs.Agreement.{SlotAgrees, Agrees, IsFresh}
+use Rattle.ct_lun.specs.States.{command_in, task_in, tasks_in}
+use Rattle.ct_lun.specs.Agreement.{Agrees}
 use Rattle.ct_lun.specs.Rooms.{room_at, task_room, room_of}
 use Rattle.ct_lun.specs.Calls.{Goes, Leaves, Spends}
 use Rattle.ct_lun.proofs.Lists.{slot_read, map_set, map_remove, sum_set, sum_remove}
-use Rattle.ct_lun.proofs.Keeps.{slot_agrees, get_map}
-use Rattle.ct_lun.proofs.Turns.{Made}
+use Rattle.ct_lun.proofs.Keeps.{get_map}
 use Rattle.ct_lun.proofs.Effects.{stage_begun, stage_waits}
 use Rattle.ct_lun.proofs.Moves.{slot_made}
 
-least_room : (stage : Stage) (operations : ℕ) → 3 ≤ room_at stage operations
+pub least_room : (stage : Stage) (operations : ℕ) → 3 ≤ room_at stage operations
 least_room Waiting operations = omega arith
 least_room (Here done got) operations = omega arith
 least_room Granted operations = omega arith

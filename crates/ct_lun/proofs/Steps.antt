@@ -1,25 +1,24 @@
 -- Steps of commands, by place, by number, and of the next one.
-use Rattle.std.proofs.Common.{◌≡◌, ℕ, zero, suc, ◌+◌, ◌<◌, ◌≤◌, List, [], ◌∷◌, ◌++◌, Bool, true, false, not, ◌==◌, inl, inr, Option, Some, None, IsNone, IfSome, option_map, length, map, if◌then◌else◌, refl, sym, ap, ◌∙◌, subst, arith}
+use Rattle.std.proofs.Common.{◌≡◌, ℕ, suc, ◌<◌, List, [], ◌∷◌, Bool, true, false, ◌==◌, inl, inr, Option, Some, None, IsNone, IfSome, length, map, if◌then◌else◌, refl, sym, ap, ◌∙◌, subst, arith}
 use Rattle.std.specs.List.{find}
-use Rattle.std.proofs.lemmas.Bool.{cases_Bool, false≢true}
+use Rattle.std.proofs.lemmas.Bool.{cases_Bool}
 use Rattle.ct_matrix.specs.declared.held.HeldCommand.{HeldCommand}
 use Rattle.ct_matrix.specs.Queues.{TaskSet, command_of, blocker_of, next_ready_of, first_begun_of, number_of as number_held}
 use Rattle.ct_book.specs.Journals.{KeptWork, BookState}
 use Rattle.ct_machine.specs.declared.act.Answer.TheVariants as answer
-use Rattle.ct_machine.specs.States.{Stage, Waiting, Here, Task, State, task_of, task_set_of, held_of, is_moving, has_begun}
+use Rattle.ct_machine.specs.States.{Stage, Waiting, Here, Task, task_of, task_set_of, held_of, is_moving}
 use Rattle.ct_machine.specs.Acts.{Done, unchanged, stepping_at, stepping, beginning_unless, first_moving, first_some, next_step, stepping_next}
 use Rattle.ct_lun.specs.declared.slot.Slot.{Slot}
-use Rattle.ct_lun.specs.declared.said.Stepped.{Stepped}
 use Rattle.ct_lun.specs.Desk.{Desk, slot_at, slot_of, place_of}
 use Rattle.ct_lun.specs.States.{stage_of, task_in, tasks_in, state_of}
 use Rattle.ct_lun.specs.Agreement.{Agrees, AgreesWith}
-use Rattle.ct_lun.specs.Calls.{Does, said, said_next}
+use Rattle.ct_lun.specs.Calls.{Does}
 use Rattle.ct_lun.specs.Acts.{going, beginning_by, stepping_by, step_of, next_of}
 use Rattle.ct_lun.proofs.Lists.{same_number}
 use Rattle.ct_lun.proofs.Tasks.{no_task, begun_stage}
 use Rattle.ct_lun.proofs.Keeps.{task_found, held_found}
 use Rattle.ct_lun.proofs.Effects.{stage_begun, stage_waits}
-use Rattle.ct_lun.proofs.Does.{does_nothing, does_same}
+use Rattle.ct_lun.proofs.Does.{does_nothing}
 
 -- by place
 

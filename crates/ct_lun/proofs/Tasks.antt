@@ -1,16 +1,15 @@
 -- The tasks of the machine's state and the task set, where the slots of a unit change.
-use Rattle.std.proofs.Common.{◌≡◌, ℕ, zero, suc, ◌+◌, List, [], ◌∷◌, ◌++◌, Bool, true, false, not, ◌==◌, inl, inr, Option, Some, None, IsNone, length, map, slice_get, slice_set, insert, remove, if◌then◌else◌, refl, sym, ap, ◌∙◌, subst, arith}
+use Rattle.std.proofs.Common.{◌≡◌, ℕ, zero, suc, List, [], ◌∷◌, ◌++◌, Bool, true, false, not, ◌==◌, inl, inr, Some, None, IsNone, map, slice_get, slice_set, insert, remove, if◌then◌else◌, refl, sym, ap, ◌∙◌, subst, arith}
 use Rattle.std.proofs.lemmas.Bool.{cases_Bool, false≢true}
 use Rattle.ct_cdb.specs.declared.op.Attr2.{Attr2}
 use Rattle.ct_matrix.specs.declared.held.HeldCommand.{HeldCommand}
 use Rattle.ct_matrix.specs.Conflicts.{is_head}
 use Rattle.ct_matrix.specs.Queues.{command_of, without, with_begun, placed, before_waiting as before_waiting_held}
-use Rattle.ct_book.specs.declared.work.Command.{Command}
 use Rattle.ct_book.specs.Journals.{KeptWork}
-use Rattle.ct_machine.specs.States.{Stage, Waiting, Here, Task, task_of, without_task, with_task, at_stage, is_waiting, has_begun, held_of, held_by, before_waiting, queued}
+use Rattle.ct_machine.specs.States.{Waiting, Here, Task, task_of, without_task, with_task, is_waiting, has_begun, held_of, before_waiting, queued}
 use Rattle.ct_lun.specs.declared.slot.Slot.{Slot}
 use Rattle.ct_lun.specs.Apart.{Differs, IsApart}
-use Rattle.ct_lun.specs.Desk.{number_of, slot_of, place_of, waiting_from, placed_slot}
+use Rattle.ct_lun.specs.Desk.{number_of, slot_of, waiting_from, placed_slot}
 use Rattle.ct_lun.specs.States.{stage_of, task_in, tasks_in, command_in}
 use Rattle.ct_lun.proofs.Lists.{equal_number, differs_at, turned, map_push}
 

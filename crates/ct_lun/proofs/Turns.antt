@@ -1,7 +1,7 @@
 -- What the machine writes of a command that moves, or is over at once.
-use Rattle.std.proofs.Common.{◌≡◌, ℕ, zero, suc, ◌+◌, ◌-◌, ◌<◌, ◌≤◌, List, [], ◌∷◌, ◌++◌, Bool, true, false, ◌&&◌, ◌||◌, nat_le, ◌==◌, Option, Some, None, is_some, length, map, take, drop, slice_get, slice_index_or, replicate, if◌then◌else◌, refl, sym, ap, ◌∙◌, subst, arith}
+use Rattle.std.proofs.Common.{◌≡◌, ℕ, zero, suc, ◌+◌, ◌<◌, ◌≤◌, List, [], ◌∷◌, ◌++◌, Bool, true, false, ◌&&◌, nat_le, Option, Some, None, length, take, drop, slice_get, slice_index_or, replicate, refl, sym, ap, ◌∙◌, arith}
 use Rattle.std.specs.List.{list_any}
-use Rattle.std.proofs.lemmas.List.{append-nil, length-take-le}
+use Rattle.std.proofs.lemmas.List.{length-take-le}
 use Rattle.ct_word.specs.declared.names.Nexus.{Nexus}
 use Rattle.ct_word.specs.Nexuses.{no_nexuses, contains, place_of}
 use Rattle.ct_sense.specs.declared.reply.Reply.{Reply}
@@ -10,18 +10,17 @@ use Rattle.ct_plan.specs.declared.task.Task.{Task as PlanTask}
 use Rattle.ct_plan.specs.declared.task.Piece.{Piece}
 use Rattle.ct_plan.specs.Plans.{puts_among}
 use Rattle.ct_plan.specs.Cells.{Cells, Progress, performed, after_all}
-use Rattle.ct_plan.specs.Pieces.{Advances, reached}
+use Rattle.ct_plan.specs.Pieces.{Advances}
 use Rattle.ct_plan.specs.Tasks.{cells_of}
 use Rattle.ct_plan.proofs.Lists.{performed-all}
 use Rattle.ct_book.specs.declared.event.Event.TheVariants as event
-use Rattle.ct_book.specs.declared.event.Why.TheVariants.{By, Medium}
+use Rattle.ct_book.specs.declared.event.Why.TheVariants.{Medium}
 use Rattle.ct_book.specs.declared.event.Logged.{Logged}
 use Rattle.ct_exec.specs.Executions.{good, reply_failed, plan_in}
-use Rattle.ct_machine.specs.declared.act.Answer.{Answer}
 use Rattle.ct_machine.specs.declared.act.Answer.TheVariants as answer
 use Rattle.ct_machine.specs.States.{Stage, Task, State, at_stage, is_waiting, task_of, arrival_of}
 use Rattle.ct_machine.specs.Events.{after_events, is_cleared}
-use Rattle.ct_machine.specs.Acts.{Turn, followed, tried, moving_on, moved_to, failing_if, failing, moving_from, ends, moved_answer, line_by, clearing, clearing_all}
+use Rattle.ct_machine.specs.Acts.{Turn, followed, tried, moving_on, moved_to, failing, moving_from, ends, moved_answer, line_by, clearing, clearing_all}
 use Rattle.ct_lun.specs.Calls.{told, replied, moved_journal}
 use Rattle.ct_lun.proofs.Lists.{equal_number}
 

@@ -5,7 +5,7 @@ use Rattle.ct_exec.specs.Executions.{refusal_of, plan_in}
 use Rattle.ct_machine.specs.States.{task_of}
 use Rattle.ct_machine.specs.Acts.{Done, moved, moving_from, beginning, stepping, stepping_at, stepping_next, next_step}
 use Rattle.ct_lun.specs.Desk.{Desk, slot_at}
-use Rattle.ct_lun.specs.States.{command_in, stage_of, task_in, state_of}
+use Rattle.ct_lun.specs.States.{task_in, state_of}
 
 -- the command at a place, which began, goes on
 abbrev pub going : Desk → BookState → ℕ → ℕ → Option ℕ → Done

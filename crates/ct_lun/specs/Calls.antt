@@ -1,5 +1,5 @@
 -- What the calls of a unit do.
-use Rattle.std.specs.Prelude.{◌≡◌, ℕ, zero, suc, ◌+◌, ◌-◌, ◌<◌, ◌≤◌, List, [], ◌++◌, ◌∷◌, length, map, Option, None, Some, IsSome, IfSome, slice_set, remove, Bool, true, false}
+use Rattle.std.specs.Prelude.{◌≡◌, ℕ, zero, suc, ◌+◌, ◌-◌, ◌<◌, ◌≤◌, List, [], ◌++◌, ◌∷◌, length, Option, None, Some, IsSome, slice_set, remove, false}
 use Rattle.ct_word.specs.Nexuses.{no_nexuses}
 use Rattle.ct_sense.specs.declared.reply.Reply.{Reply}
 use Rattle.ct_pool.specs.Leases.{Gives}
@@ -10,7 +10,7 @@ use Rattle.ct_plan.specs.Tasks.{IsReady, asked}
 use Rattle.ct_matrix.specs.Queues.{without}
 use Rattle.ct_book.specs.declared.event.Event.{Event}
 use Rattle.ct_book.specs.declared.event.Event.TheVariants as event
-use Rattle.ct_book.specs.declared.event.Why.TheVariants.{By, Medium}
+use Rattle.ct_book.specs.declared.event.Why.TheVariants.{Medium}
 use Rattle.ct_book.specs.declared.event.Logged.{Logged}
 use Rattle.ct_book.specs.Journals.{BookState, with_event, with_reply}
 use Rattle.ct_exec.specs.declared.refusal.Refusal.{Refusal}

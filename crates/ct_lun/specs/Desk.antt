@@ -1,11 +1,12 @@
 -- What contracts see of a logical unit.
 use Rattle.std.specs.Prelude.{ℕ, List, [], ◌∷◌, ◌++◌, not, false, ◌==◌, slice_index_or, insert, Option, if◌then◌else◌}
 use Rattle.std.specs.List.{find, position_or_len}
+use Rattle.ct_word.specs.declared.names.LunNo.{LunNo}
 use Rattle.ct_cdb.specs.declared.op.Attr2.{Attr2}
 use Rattle.ct_pool.specs.Leases.{PoolState}
 use Rattle.ct_matrix.specs.Conflicts.{is_head}
 use Rattle.ct_matrix.specs.Queues.{TaskSet}
-use Rattle.ct_exec.specs.Controls.{ControlState, is_unrestricted}
+use Rattle.ct_exec.specs.Controls.{ControlState, is_unrestricted, opening_control}
 use Rattle.ct_lun.specs.declared.slot.Slot.{Slot}
 
 -- the control; the task set; its commands in queue order, each with its task; the pool; the blocks of the medium, and
@@ -62,4 +63,15 @@ abbrev pub with_control : Desk → ControlState → Desk
 with_control desk control = record desk {
   control = control;
   set = record desk.set { unrestricted = is_unrestricted control };
+}
+
+-- a unit as it is opened
+abbrev pub opened_desk : LunNo → ℕ → ℕ → List (List ℕ) → ℕ → Desk
+opened_desk lun depth pool blocks faults = record {
+  control = opening_control lun;
+  set = record { commands = []; depth = depth; unrestricted = is_unrestricted (opening_control lun) };
+  slots = [];
+  pool = record { size = pool; contexts = depth; free = pool; leases = [] };
+  blocks = blocks;
+  faults = faults;
 }

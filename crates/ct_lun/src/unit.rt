@@ -1,6 +1,5 @@
 ghost use Rattle.std.specs.Prelude.{◌≡◌, ◌+◌, ◌-◌, ◌<◌, ◌≤◌, [], length, IfOk};
-ghost use Rattle.ct_exec.specs.Controls.{opening_control, is_unrestricted};
-ghost use Rattle.ct_lun.specs.Desk.{Desk, slot_at};
+ghost use Rattle.ct_lun.specs.Desk.{Desk, opened_desk};
 
 use crate::slot::Slot;
 use ct_exec::Control;
@@ -52,14 +51,7 @@ impl<B: Backend> Lun<B> {
     ) -> Result<Lun<B>, NoMemory>
         requires low { 1 ≤ depth }
         requires high { depth ≤ 256 }
-        ensures { IfOk result (λ l. l ≡ record {
-          control = opening_control lun;
-          set = record { commands = []; depth = depth; unrestricted = is_unrestricted (opening_control lun) };
-          slots = [];
-          pool = record { size = pool; contexts = depth; free = pool; leases = [] };
-          blocks = B.blocks medium;
-          faults = B.faults medium;
-        }) }
+        ensures { IfOk result (λ l. l ≡ opened_desk lun depth pool (B.blocks medium) (B.faults medium)) }
     {
         let control = Control::open(alloc, lun)?;
         let mut queue = Queue::open(alloc, depth)?;

@@ -19,12 +19,14 @@ use Rattle.ct_book.specs.declared.event.Logged.{Logged}
 use Rattle.ct_book.specs.Journals.{KeptWork, numbered, works_in}
 use Rattle.ct_exec.specs.Controls.{opening_disk, is_unrestricted, tells_aborts}
 use Rattle.ct_exec.specs.Executions.{execute, refusal_of, plan_in, reply_moved, reply_failed}
+use Rattle.ct_machine.specs.declared.act.Act.{Act}
 use Rattle.ct_machine.specs.declared.act.Act.TheVariants as act
+use Rattle.ct_machine.specs.declared.act.Answer.{Answer}
 use Rattle.ct_machine.specs.declared.act.Answer.TheVariants as answer
 use Rattle.ct_machine.specs.declared.act.Opening.{Opening}
 use Rattle.ct_machine.specs.States.{Task, State, task_of, held_by}
 use Rattle.ct_machine.specs.Acts.{act_of, turned_cause, is_sent, numbers_of}
-use Rattle.ct_machine.specs.Runs.{replay}
+use Rattle.ct_machine.specs.Runs.{replay, IsAllowed}
 use Rattle.ct_machine.specs.Serial.{serial_disk}
 
 -- P holds of each event of a journal and the events before it
@@ -335,6 +337,22 @@ abbrev pub NeverStops : Opening → List Logged → Type 0
 NeverStops o journal =
     (number count : ℕ) (fault : Option ℕ) → IsLive (replay o journal) number → 1 ≤ count →
     (act_of (replay o journal) (act.Next count) fault).answer ≢ answer.Idle
+
+-- an answer by which nothing happened
+abbrev pub is_void : Answer → Bool
+is_void (answer.NoRoom came) = true
+is_void (answer.Blocked number) = true
+is_void (answer.Away number) = true
+is_void answer.Gone = true
+is_void answer.Nothing = true
+is_void answer.Idle = true
+is_void _ = false
+
+-- an act by which something happened writes an event
+abbrev pub ActsWrite : Opening → List Logged → Type 0
+ActsWrite o journal =
+    (done : Act) (fault : Option ℕ) → IsAllowed o done → is_void (act_of (replay o journal) done fault).answer ≡ false →
+    (act_of (replay o journal) done fault).journal ≢ []
 
 -- the events that the room of an opening reserves
 abbrev pub reserved_events : Opening → ℕ

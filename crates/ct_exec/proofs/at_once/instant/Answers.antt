@@ -1,4 +1,4 @@
-use Rattle.std.proofs.Common.{◌≡◌, ℕ, List}
+use Rattle.std.proofs.Common.{ℕ, List}
 use Rattle.ct_exec.proofs.Instants.{done_at_once}
 use Rattle.ct_exec.proofs.at_once.instant.Goals as goal
 

@@ -1,5 +1,3 @@
-use Rattle.std.proofs.Common.{◌≡◌}
-use Rattle.ct_book.specs.Kept.{CanBePushed}
 use Rattle.ct_lun.proofs.Books.{can_close}
 use Rattle.ct_lun.proofs.events.close.Goals as goal
 

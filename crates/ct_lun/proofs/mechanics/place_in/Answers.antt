@@ -1,7 +1,3 @@
-use Rattle.std.proofs.Common.{◌≡◌, ◌+◌, ◌-◌, ◌<◌, ◌≤◌, ℕ, List, [], ◌∷◌, ◌++◌, length, insert, refl, arith, ap, sym, ◌∙◌, length-append}
-use Rattle.std.proofs.lemmas.List.Edits.{length-insert}
-use Rattle.ct_lun.specs.declared.slot.Slot.{Slot}
-use Rattle.ct_lun.specs.Desk.{waiting_from}
 use Rattle.ct_lun.proofs.Lists.{waiting_within}
 use Rattle.ct_lun.proofs.mechanics.place_in.Goals as goal
 

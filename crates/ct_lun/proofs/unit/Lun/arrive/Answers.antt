@@ -1,6 +1,5 @@
-use Rattle.std.proofs.Common.{◌≡◌, ◌<◌, ◌≤◌, ◌+◌, ℕ, List, [], Bool, true, Option, Some, None, IsNone, length, if◌then◌else◌, refl, sym, ap, ◌∙◌, subst, arith}
+use Rattle.std.proofs.Common.{◌≡◌, ◌≤◌, ◌+◌, ℕ, List, Bool, Some, None, IsNone, length, if◌then◌else◌, refl, sym, ap, ◌∙◌, subst, arith}
 use Rattle.ct_word.specs.declared.names.Node.TheVariants.{A}
-use Rattle.ct_sense.specs.declared.reply.Reply.{Reply}
 use Rattle.ct_plan.specs.declared.operation.BlockOp.{BlockOp}
 use Rattle.ct_book.specs.declared.work.Command.{Command}
 use Rattle.ct_book.specs.declared.work.Work.TheVariants as work
@@ -8,7 +7,7 @@ use Rattle.ct_book.specs.Journals.{BookState, numbered, has_room, with_work}
 use Rattle.ct_exec.specs.Executions.{plan_in}
 use Rattle.ct_machine.specs.declared.act.Answer.TheVariants as answer
 use Rattle.ct_lun.specs.Desk.{Desk, slot_of}
-use Rattle.ct_lun.specs.Agreement.{Agrees, AgreesWith}
+use Rattle.ct_lun.specs.Agreement.{Agrees}
 use Rattle.ct_lun.proofs.Arrivals.{add_ok, room_parts, added_wrote, next_absent, added_reply, arrive_does}
 use Rattle.ct_lun.proofs.unit.Lun.arrive.Goals as goal
 

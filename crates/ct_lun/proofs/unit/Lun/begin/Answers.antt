@@ -1,14 +1,12 @@
-use Rattle.std.proofs.Common.{◌≡◌, ◌<◌, ◌≤◌, ℕ, Option, Some, None, option_map, refl, sym, ap, ◌∙◌, subst, arith, length}
-use Rattle.ct_sense.specs.declared.reply.Reply.{Reply}
+use Rattle.std.proofs.Common.{◌≡◌, ℕ, Some, sym, ap, ◌∙◌, subst, arith, length}
 use Rattle.ct_book.specs.declared.work.Command.{Command}
 use Rattle.ct_book.specs.declared.event.Event.TheVariants as event
-use Rattle.ct_exec.specs.declared.refusal.Refusal.{Refusal}
 use Rattle.ct_exec.specs.Executions.{refusal_of, refused_control}
 use Rattle.ct_exec.specs.Refusals.{refused_reply}
 use Rattle.ct_lun.specs.declared.slot.Slot.{Slot}
 use Rattle.ct_lun.specs.Desk.{Desk, slot_at, with_control}
 use Rattle.ct_lun.specs.States.{command_in}
-use Rattle.ct_lun.specs.Calls.{Leaves, IsOver, by_end, closed_book}
+use Rattle.ct_lun.specs.Calls.{Leaves, by_end, closed_book}
 use Rattle.ct_lun.proofs.Begins.{refused_does}
 use Rattle.ct_lun.proofs.unit.Lun.begin.Goals as goal
 

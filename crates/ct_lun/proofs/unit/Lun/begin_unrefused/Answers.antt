@@ -1,13 +1,10 @@
-use Rattle.std.proofs.Common.{◌≡◌, ◌<◌, ◌≤◌, ℕ, List, [], Option, Some, None, true, slice_set, refl, sym, ap, ◌∙◌, subst, arith, length}
-use Rattle.std.proofs.lemmas.List.{length-set}
-use Rattle.ct_book.specs.Journals.{BookState}
+use Rattle.std.proofs.Common.{◌≡◌, ℕ, true, slice_set, sym, ap, ◌∙◌, subst, arith, length}
 use Rattle.ct_lun.specs.declared.slot.Slot.{Slot}
 use Rattle.ct_lun.specs.Desk.{Desk, slot_at}
-use Rattle.ct_lun.specs.States.{command_in, state_of}
-use Rattle.ct_lun.specs.Agreement.{AgreesWith}
+use Rattle.ct_lun.specs.States.{state_of}
 use Rattle.ct_lun.specs.Calls.{Does, said}
 use Rattle.ct_lun.specs.Acts.{going}
-use Rattle.ct_lun.proofs.Begins.{at_once_does, begin_does, unplanned, planned, begun_agrees, begun_slot}
+use Rattle.ct_lun.proofs.Begins.{at_once_does, begin_does, unplanned, planned, begun_slot}
 use Rattle.ct_lun.proofs.unit.Lun.begin_unrefused.Goals as goal
 
 pub returns-then-length-eq0 : goal.returns-then-length-eq0

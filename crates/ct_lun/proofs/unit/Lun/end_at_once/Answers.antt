@@ -1,6 +1,6 @@
-use Rattle.std.proofs.Common.{◌≡◌, refl, sym, ap, ◌∙◌, subst}
-use Rattle.ct_lun.specs.Desk.{Desk, slot_at, with_control}
-use Rattle.ct_lun.specs.Calls.{IsOver, by_end, Leaves}
+use Rattle.std.proofs.Common.{sym, subst}
+use Rattle.ct_lun.specs.Desk.{Desk, with_control}
+use Rattle.ct_lun.specs.Calls.{by_end, Leaves}
 use Rattle.ct_lun.proofs.Books.{is_held}
 use Rattle.ct_lun.proofs.Effects.{leaves_control}
 use Rattle.ct_lun.proofs.unit.Lun.end_at_once.Goals as goal

@@ -1,4 +1,4 @@
-use Rattle.std.proofs.Common.{◌≡◌, ℕ, List, [], ◌∷◌, Option, Some, None, false, length, refl, sym, ap, ◌∙◌, subst}
+use Rattle.std.proofs.Common.{◌≡◌, ℕ, [], ◌∷◌, Some, None, false, length, refl, sym, ap, ◌∙◌, subst}
 use Rattle.ct_pool.specs.Leases.{PoolState, Takes}
 use Rattle.ct_matrix.specs.declared.held.Held.{Held}
 use Rattle.ct_matrix.specs.Queues.{placed}
@@ -13,7 +13,6 @@ use Rattle.ct_machine.specs.Acts.{turned_cause}
 use Rattle.ct_lun.specs.declared.slot.Slot.{Slot}
 use Rattle.ct_lun.specs.Desk.{Desk, placed_slot}
 use Rattle.ct_lun.specs.States.{command_in, state_of}
-use Rattle.ct_lun.specs.Agreement.{AgreesWith}
 use Rattle.ct_lun.specs.Calls.{Wrote, entered_as, told}
 use Rattle.ct_lun.proofs.Enters.{cause_known, entry_fresh, body_known, entered_left, entered_wrote, enters_wrote, turned_wrote, turns_wrote, IsEntry}
 use Rattle.ct_lun.proofs.unit.Lun.enter.Goals as goal

@@ -1,5 +1,5 @@
-use Rattle.std.proofs.Common.{◌≡◌, ◌≢◌, ◌<◌, ℕ, length, IsNone, refl, sym, ap, ◌∙◌, arith}
-use Rattle.ct_lun.specs.Desk.{slot_at, slot_of, place_of}
+use Rattle.std.proofs.Common.{◌≡◌, ◌≢◌, length, sym, ap, ◌∙◌, arith}
+use Rattle.ct_lun.specs.Desk.{place_of}
 use Rattle.ct_lun.proofs.Lists.{place_within}
 use Rattle.ct_lun.proofs.Steps.{place_named, place_absent}
 use Rattle.ct_lun.proofs.unit.Lun.find.Goals as goal

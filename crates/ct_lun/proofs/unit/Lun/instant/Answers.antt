@@ -1,4 +1,4 @@
-use Rattle.std.proofs.Common.{◌≡◌, refl, sym}
+use Rattle.std.proofs.Common.{sym}
 use Rattle.ct_lun.proofs.Books.{clears_known}
 use Rattle.ct_lun.proofs.unit.Lun.instant.Goals as goal
 

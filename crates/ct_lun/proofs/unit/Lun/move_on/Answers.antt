@@ -1,4 +1,4 @@
-use Rattle.std.proofs.Common.{◌≡◌, ◌<◌, ◌≤◌, ◌+◌, ℕ, Option, Some, None, refl, sym, ap, ◌∙◌, subst, arith, length}
+use Rattle.std.proofs.Common.{◌≡◌, ℕ, Option, Some, refl, sym, ap, ◌∙◌, subst, arith}
 use Rattle.std.proofs.Common.{slice_get, get_or, IfSome, false}
 use Rattle.std.proofs.lemmas.Option.{slice_get-get_or}
 use Rattle.ct_sense.specs.declared.reply.Reply.{Reply}
@@ -9,14 +9,12 @@ use Rattle.ct_plan.specs.declared.task.Piece.{Piece}
 use Rattle.ct_plan.specs.Pieces.{fault_in}
 use Rattle.ct_book.specs.declared.event.Event.TheVariants as event
 use Rattle.ct_book.specs.declared.event.Why.TheVariants.{Medium}
-use Rattle.ct_book.specs.Journals.{BookState}
 use Rattle.ct_exec.specs.Executions.{good, reply_failed}
 use Rattle.ct_exec.specs.Refusals.{refused_reply}
 use Rattle.ct_lun.specs.declared.slot.Slot.{Slot}
 use Rattle.ct_lun.specs.Desk.{Desk, slot_at}
 use Rattle.ct_lun.specs.States.{command_in}
-use Rattle.ct_lun.specs.Agreement.{Agrees}
-use Rattle.ct_lun.specs.Calls.{Goes, IsOver, by_end, by_medium, closed_book}
+use Rattle.ct_lun.specs.Calls.{Goes, closed_book}
 use Rattle.ct_lun.proofs.Does.{gone_slot, gone_within, gone_end, gone_cut, part_does}
 use Rattle.ct_lun.proofs.Moves.{moved_wrote}
 use Rattle.ct_lun.proofs.Overs.{reached_part, reached_end, reached_fault, fault_left, end_does, cut_does}

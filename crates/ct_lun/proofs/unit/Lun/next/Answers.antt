@@ -1,4 +1,4 @@
-use Rattle.std.proofs.Common.{◌≡◌, ℕ, Option, Some, None, refl, sym, ap, ◌∙◌, subst}
+use Rattle.std.proofs.Common.{◌≡◌, Some, sym, ◌∙◌}
 use Rattle.ct_machine.specs.Acts.{next_step}
 use Rattle.ct_lun.specs.States.{state_of}
 use Rattle.ct_lun.specs.Calls.{said}

@@ -1,4 +1,4 @@
-use Rattle.std.proofs.Common.{◌≡◌, refl}
+use Rattle.std.proofs.Common.{refl}
 use Rattle.ct_book.specs.declared.event.Event.TheVariants as event
 use Rattle.ct_book.specs.Journals.{with_event}
 use Rattle.ct_lun.specs.Desk.{slot_at}

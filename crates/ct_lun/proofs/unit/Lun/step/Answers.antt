@@ -1,5 +1,5 @@
-use Rattle.std.proofs.Common.{◌≡◌, ◌<◌, ℕ, Option, Some, None, IfSome, IfNone, IsNone, length, refl, sym, ap, ◌∙◌, subst}
-use Rattle.ct_lun.specs.Desk.{Desk, slot_at, slot_of}
+use Rattle.std.proofs.Common.{◌≡◌, ◌<◌, ℕ, length, subst}
+use Rattle.ct_lun.specs.Desk.{slot_at}
 use Rattle.ct_lun.specs.States.{state_of}
 use Rattle.ct_lun.specs.Calls.{Does, said}
 use Rattle.ct_lun.specs.Acts.{step_of, stepping_by}

@@ -1,7 +1,6 @@
-use Rattle.std.proofs.Common.{◌≡◌, ◌<◌, ◌≤◌, ℕ, List, [], Option, Some, None, IfSome, true, false, refl, sym, ap, ◌∙◌, subst, length}
-use Rattle.ct_matrix.specs.Queues.{command_of, blocker_of}
+use Rattle.std.proofs.Common.{◌≡◌, false, sym, ap, ◌∙◌}
 use Rattle.ct_lun.specs.declared.slot.Slot.{Slot}
-use Rattle.ct_lun.specs.Desk.{Desk, slot_at}
+use Rattle.ct_lun.specs.Desk.{slot_at}
 use Rattle.ct_lun.specs.States.{state_of}
 use Rattle.ct_lun.specs.Calls.{said}
 use Rattle.ct_lun.specs.Acts.{beginning_by, stepping_by}
