@@ -1,17 +1,17 @@
 -- What steps write: no arrival, and at most one cut by a fault of the medium, none without a fault.
 use Rattle.std.proofs.Common.{◌≡◌, ℕ, zero, suc, ◌+◌, ◌≤◌, List, [], ◌∷◌, ◌++◌, Bool, true, false, Option, Some, None, length, take, drop, nat_le, slice_get, refl, ap, ◌∙◌, cond, arith}
 use Rattle.std.specs.List.{list_any}
+use Rattle.std.proofs.lemmas.List.Elements.{filter_map-append}
+use Rattle.ct_word.specs.declared.names.Node.TheVariants.{A}
 use Rattle.ct_sense.specs.declared.reply.Reply.{Reply}
 use Rattle.ct_plan.specs.declared.operation.BlockOp.{BlockOp}
 use Rattle.ct_plan.specs.Cells.{performed}
 use Rattle.ct_book.specs.declared.work.Command.{Command}
-use Rattle.ct_word.specs.declared.names.Node.TheVariants.{A}
 use Rattle.ct_book.specs.declared.work.Work.TheVariants as work
 use Rattle.ct_book.specs.declared.event.Event.TheVariants as event
 use Rattle.ct_book.specs.declared.event.Why.TheVariants.{By}
 use Rattle.ct_book.specs.declared.event.Logged.{Logged}
 use Rattle.ct_book.specs.Journals.{KeptWork, works_in, arrived}
-use Rattle.std.proofs.lemmas.List.Elements.{filter_map-append}
 use Rattle.ct_exec.specs.Controls.{tells_aborts}
 use Rattle.ct_exec.specs.Executions.{execute, refusal_of, plan_in}
 use Rattle.ct_machine.specs.declared.act.Answer.TheVariants as answer
