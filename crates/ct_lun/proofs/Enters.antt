@@ -1,5 +1,5 @@
 -- A command enters the task set, or is refused at its arrival.
-use Rattle.std.proofs.Common.{◌≡◌, ℕ, zero, suc, ◌+◌, ◌-◌, ◌*◌, ◌<◌, ◌≤◌, List, [], ◌∷◌, ◌++◌, Bool, true, false, ◌||◌, ◌==◌, inl, inr, Option, Some, None, IsNone, IsSomeAnd, IfSome, Result, Ok, Err, length, map, slice_set, insert, sum_by, if◌then◌else◌, refl, sym, ap, ◌∙◌, subst, arith, length-append}
+use Rattle.std.proofs.Common.{◌≡◌, ℕ, zero, suc, ◌+◌, ◌-◌, ◌*◌, ◌<◌, ◌≤◌, List, [], ◌∷◌, ◌++◌, Bool, true, false, ◌||◌, ◌==◌, inl, inr, Option, Some, None, IsNone, IsSomeAnd, Result, Ok, Err, length, map, slice_set, insert, sum_by, if◌then◌else◌, refl, sym, ap, ◌∙◌, subst, arith, length-append}
 use Rattle.std.specs.List.{list_any, All}
 use Rattle.std.proofs.lemmas.Bool.{cases_Bool, false≢true}
 use Rattle.std.proofs.lemmas.List.{length-map}
@@ -294,8 +294,8 @@ entry_fresh d p number a none =
     rw absent refl
 
 -- the empty list that was taken for a command
-pub body_known : (p : BookState) (number : ℕ) (body : Kept ℕ) → IsCommandNo p number → IfSome (numbered number p.works) (λ came. IsBodyOf came body) → IsFilled (command_in p.works number) body
-body_known p number body command ready = subst (λ (o : Option KeptWork). IfSome o (λ came. IsBodyOf came body)) (command_known p number command) ready
+pub body_known : (p : BookState) (number : ℕ) (body : Kept ℕ) → IsCommandNo p number → IsSomeAnd (numbered number p.works) (λ came. IsBodyOf came body) → IsFilled (command_in p.works number) body
+body_known p number body command ready = subst (λ (o : Option KeptWork). IsSomeAnd o (λ came. IsBodyOf came body)) (command_known p number command) ready
 
 pub entered_left : (d d' : Desk) (p : BookState) (attr : Attr2) (slot : Slot) → AgreesWith d p → d'.slots ≡ placed_slot attr slot d.slots → slot.begun ≡ false → Each IsLeft d'.slots
 entered_left d d' p attr slot a slots waits = rw slots (each_placed IsLeft attr slot d.slots a.left (λ begun. absurd (false≢true (sym waits ∙ begun))))

@@ -12,7 +12,7 @@ use Rattle.ct_matrix.specs.declared.held.HeldCommand.{HeldCommand}
 use Rattle.ct_matrix.specs.Queues.{TaskSet, command_of, without, with_begun}
 use Rattle.ct_book.specs.declared.work.Work.TheVariants as work
 use Rattle.ct_book.specs.Journals.{KeptWork, BookState, numbered}
-use Rattle.ct_book.proofs.Places.{numbered-apart, numbered-place}
+use Rattle.ct_book.proofs.Places.{numbered-apart}
 use Rattle.ct_exec.specs.Controls.{ControlState, is_unrestricted}
 use Rattle.ct_exec.specs.Executions.{need_in}
 use Rattle.ct_machine.specs.States.{Task, held_of, task_of}
@@ -54,7 +54,8 @@ slot_stays blocks pool pool' works replies replies' key slot a others apart same
 }
 
 pub positive : (number : ℕ) (works : List KeptWork) (came : KeptWork) → numbered number works ≡ Some came → 0 < number
-positive number works came found = let place = numbered-place number works came found in omega (arith, place.0)
+positive zero works came found = cc
+positive (suc before) works came found = omega arith
 
 -- the slot at a place
 

@@ -3,20 +3,19 @@ use Rattle.std.proofs.Common.{◌≡◌, ℕ, zero, suc, ◌+◌, ◌<◌, ◌�
 use Rattle.std.specs.List.{All}
 use Rattle.std.proofs.lemmas.List.Elements.{All-append}
 use Rattle.std.proofs.lemmas.List.Sums.{fold-append}
+use Rattle.std.proofs.lemmas.Bool.{false≢true}
+use Rattle.std.proofs.lemmas.List.{append-nil}
+use Rattle.ct_word.specs.declared.names.Node.{Node}
+use Rattle.ct_word.specs.declared.names.Node.TheVariants.{A, B}
+use Rattle.ct_tmf.specs.declared.function.Ask.{Ask}
 use Rattle.ct_book.specs.declared.event.Logged.{Logged}
+use Rattle.ct_book.specs.declared.work.Command.{Command}
+use Rattle.ct_book.specs.declared.work.Work.TheVariants as work
 use Rattle.ct_book.specs.Journals.{KeptWork, BookState}
 use Rattle.ct_machine.specs.declared.act.Act.{Act}
 use Rattle.ct_machine.specs.declared.act.Act.TheVariants as act
 use Rattle.ct_machine.specs.declared.act.Answer.{Answer}
 use Rattle.ct_machine.specs.declared.act.Answer.TheVariants as answer
-use Rattle.ct_word.specs.declared.names.Node.{Node}
-use Rattle.ct_word.specs.declared.names.Node.TheVariants.{A, B}
-use Rattle.ct_tmf.specs.declared.function.Ask.{Ask}
-use Rattle.ct_book.specs.declared.work.Command.{Command}
-use Rattle.ct_book.specs.declared.work.Work.TheVariants as work
-use Rattle.std.proofs.lemmas.Bool.{false≢true}
-use Rattle.std.proofs.lemmas.List.{append-nil}
-use Rattle.ct_pair.proofs.Events.{functions_stay, arrivals_stay}
 use Rattle.ct_machine.specs.declared.act.Opening.{Opening}
 use Rattle.ct_machine.specs.States.{State, task_of}
 use Rattle.ct_machine.specs.Events.{after_events}
@@ -29,6 +28,7 @@ use Rattle.ct_lun.specs.Agreement.{AgreesWith}
 use Rattle.ct_lun.specs.Rooms.{room_of}
 use Rattle.ct_lun.specs.Calls.{Does}
 use Rattle.ct_pair.specs.Pairs.{medium_cuts, IsPair, Acts}
+use Rattle.ct_pair.proofs.Events.{functions_stay, arrivals_stay}
 use Rattle.ct_pair.proofs.Steps.{medium_cuts-append, most_cuts, comes, steps, steps_next}
 
 -- a run grows by an act that can come

@@ -1,5 +1,4 @@
-mod Events
-mod Rooms
-mod Steps
 mod Acted
+mod Events
 mod Opened
+mod Steps

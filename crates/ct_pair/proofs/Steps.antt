@@ -1,17 +1,17 @@
 -- What steps write: no arrival, and at most one cut by a fault of the medium, none without a fault.
 use Rattle.std.proofs.Common.{◌≡◌, ℕ, zero, suc, ◌+◌, ◌≤◌, List, [], ◌∷◌, ◌++◌, Bool, true, false, Option, Some, None, length, take, drop, nat_le, slice_get, refl, ap, ◌∙◌, cond, arith}
 use Rattle.std.specs.List.{list_any}
+use Rattle.std.proofs.lemmas.List.Elements.{filter_map-append}
+use Rattle.ct_word.specs.declared.names.Node.TheVariants.{A}
 use Rattle.ct_sense.specs.declared.reply.Reply.{Reply}
 use Rattle.ct_plan.specs.declared.operation.BlockOp.{BlockOp}
 use Rattle.ct_plan.specs.Cells.{performed}
 use Rattle.ct_book.specs.declared.work.Command.{Command}
-use Rattle.ct_word.specs.declared.names.Node.TheVariants.{A}
 use Rattle.ct_book.specs.declared.work.Work.TheVariants as work
 use Rattle.ct_book.specs.declared.event.Event.TheVariants as event
 use Rattle.ct_book.specs.declared.event.Why.TheVariants.{By}
 use Rattle.ct_book.specs.declared.event.Logged.{Logged}
 use Rattle.ct_book.specs.Journals.{KeptWork, works_in, arrived}
-use Rattle.std.proofs.lemmas.List.Elements.{filter_map-append}
 use Rattle.ct_exec.specs.Controls.{tells_aborts}
 use Rattle.ct_exec.specs.Executions.{execute, refusal_of, plan_in}
 use Rattle.ct_machine.specs.declared.act.Answer.TheVariants as answer
@@ -43,7 +43,7 @@ more : (most : ℕ) (journal : List Logged) → Writes 0 journal → Writes most
 more most journal w = let none = w.cuts in record { cuts = omega (arith, none); works = w.works }
 
 both : (most more : ℕ) (t : Turn) (next : State → Turn) → Cuts most t → Cuts more (next t.state) → Cuts (most + more) (followed t next)
-both most more t next a b = 
+both most more t next a b =
     let sum = medium_cuts-append t.journal (next t.state).journal in
     let first = a.cuts in
     let second = b.cuts in
@@ -86,7 +86,7 @@ moves_from task count fault done got s =
     let done' = done + progress.made in
     let first : Turn = moving_on task.no progress.made s in
     let sum = both 0 (most_cuts fault) first (moved_to progress.difference (nat_le (length plan) done') task plan done' progress.cells.got operations fault)
-        (moves_on task.no progress.made s) (moves_to progress.difference (nat_le (length plan) done') task plan done' progress.cells.got operations fault first.state) in
+    (moves_on task.no progress.made s) (moves_to progress.difference (nat_le (length plan) done') task plan done' progress.cells.got operations fault first.state) in
     at_most (most_cuts fault) _ sum
 
 clears : (by : ℕ) (cleared : List Bool) (found : Option Task) (s : State) → Cuts 0 (clearing by cleared found s)

@@ -1,22 +1,17 @@
-ghost use Rattle.std.specs.Prelude.{◌≡◌, ◌<◌, ◌≤◌, ◌^◌, [], replicate, length, map, true, false, IfOk, IfErr, OnErr};
+ghost use Rattle.std.specs.Prelude.{◌≡◌, ◌<◌, ◌≤◌, ◌^◌, [], replicate, length, map, IfOk};
 ghost use Rattle.ct_word.specs.declared.names.Ha.TheVariants as mode;
-ghost use Rattle.ct_book.specs.declared.work.Work.TheVariants as work;
+ghost use Rattle.ct_book.specs.Journals.{numbered};
 ghost use Rattle.ct_book.specs.Kept.{events_for};
 ghost use Rattle.ct_machine.specs.declared.act.Act.TheVariants as act;
-ghost use Rattle.ct_machine.specs.declared.act.Answer.TheVariants as answer;
-ghost use Rattle.ct_exec.specs.Executions.{plan_in};
 ghost use Rattle.ct_machine.specs.States.{State};
 ghost use Rattle.ct_machine.specs.Acts.{line_by};
 ghost use Rattle.ct_machine.specs.Runs.{replay, IsAllowed, IsRun};
-ghost use Rattle.ct_book.specs.Journals.{numbered, has_room};
-ghost use Rattle.ct_word.specs.declared.names.Node.TheVariants as node;
 ghost use Rattle.ct_lun.specs.States.{at_a};
 ghost use Rattle.ct_lun.specs.Calls.{said, said_next};
-ghost use Rattle.ct_pair.specs.Pairs.{PairState, Acts, medium_cuts};
+ghost use Rattle.ct_pair.specs.Pairs.{Acts, medium_cuts};
 
 use ct_book::{Book, Cmd, Work};
-use ct_exec::plan;
-use ct_lun::{Entered, Lun, Stepped};
+use ct_lun::{Lun, Stepped};
 use ct_machine::{Act, Answer, Opening};
 use ct_medium::Backend;
 use ct_word::{CmdNo, Ha, LunNo, NoMemory, Node, Room};
@@ -94,7 +89,8 @@ impl<B: Backend> Pair<B> {
         Ok(Pair { opening, lun, book })
     }
 
-    /// Does an act, and takes no memory. Counts of block operations are at least 1, and a work comes at node A.
+    /// Does an act, and takes no memory. Counts of block operations are at least 1, and a work comes at node A. A work
+    /// for which there is no room is handed back.
     pub fn act(&mut self, act: Act) -> Answer
         requires { IsAllowed self.old.opening act }
         ensures { Acts self.old self.new act result }
@@ -103,6 +99,7 @@ impl<B: Backend> Pair<B> {
             Act::Arrive(node, work) => self.arrive(node, work),
             Act::Step(no, blocks) => self.step(no, blocks),
             Act::Deliver(_) => {
+                // no message is on its way: a look at a field shows the check what holds of every pair
                 let _ = &self.opening;
                 Answer::Nothing
             }
@@ -118,6 +115,7 @@ impl<B: Backend> Pair<B> {
         match work {
             Work::Cmd(cmd) => self.lun.arrive(cmd, &mut self.book),
             Work::Ask(ask) => {
+                // no function can come, as holds of every pair
                 let _ = &self.opening;
                 Answer::NoRoom(Work::Ask(ask))
             }
@@ -140,9 +138,10 @@ impl<B: Backend> Pair<B> {
         said_next(step, &self.book)
     }
 
-    /// The book of the unit.
+    /// The book of the unit. Its journal is a run.
     pub fn book(&self) -> &Book
         ensures book { result.now ≡ self.now.book }
+        ensures run { IsRun self.now.opening result.now.journal }
     {
         &self.book
     }

@@ -1,16 +1,13 @@
-use Rattle.std.proofs.Common.{sym, subst, arith}
+use Rattle.std.proofs.Common.{sym, subst}
 use Rattle.ct_book.specs.declared.work.Work.TheVariants as work
 use Rattle.ct_machine.specs.declared.act.Act.TheVariants as act
 use Rattle.ct_machine.specs.Runs.{IsAtNode}
-use Rattle.ct_pair.proofs.Rooms.{room_came}
+use Rattle.ct_lun.proofs.Opens.{arrive_spare}
 use Rattle.ct_pair.proofs.Acted.{is_pair, did_come, acted_come, acted_ask}
 use Rattle.ct_pair.proofs.pair.Pair.arrive.Goals as goal
 
 pub arrive-requires-clause-room : goal.arrive-requires-clause-room
-arrive-requires-clause-room g c some =
-    let least = room_came c.self.inside.lun c.self.inside.book some in
-    let room = c.self.invariant.room in
-    omega (arith, least, room)
+arrive-requires-clause-room g c = arrive_spare c.self.inside.lun c.self.inside.book c.self.invariant.room
 
 pub invariant_of-self : goal.invariant_of-self
 invariant_of-self g c =

@@ -1,16 +1,12 @@
-use Rattle.std.proofs.Common.{arith}
 use Rattle.ct_machine.specs.declared.act.Act.TheVariants as act
 use Rattle.ct_lun.specs.States.{state_of}
 use Rattle.ct_lun.specs.Calls.{said}
-use Rattle.ct_pair.proofs.Rooms.{room_some}
+use Rattle.ct_lun.proofs.Opens.{step_spare}
 use Rattle.ct_pair.proofs.Acted.{is_pair, did_step, works_step, acted_step}
 use Rattle.ct_pair.proofs.pair.Pair.step.Goals as goal
 
 pub step-step-requires-clause-room : goal.step-step-requires-clause-room
-step-step-requires-clause-room g c some =
-    let least = room_some c.self.inside.lun c.self.inside.book some in
-    let room = c.self.invariant.room in
-    omega (arith, least, room)
+step-step-requires-clause-room g c = step_spare c.self.inside.lun c.self.inside.book c.self.invariant.room
 
 pub invariant_of-self : goal.invariant_of-self
 invariant_of-self g c =
