@@ -1,12 +1,10 @@
 -- The history of a journal, event by event.
-use Rattle.std.proofs.Common.{◌≡◌, ℕ, zero, suc, ◌+◌, ◌-◌, ◌<◌, ◌≤◌, ◌==◌, Bool, true, false, List, [], ◌∷◌, ◌++◌, length, map, take, drop, slice_get, Option, Some, None, refl, sym, ◌∙◌, ap, subst, arith, add-one, append_assoc}
-use Rattle.std.specs.Prelude.{if◌then◌else◌, IsSome}
-use Rattle.std.specs.List.{filter_map, cons_option}
+use Rattle.std.proofs.Common.{◌≡◌, ℕ, zero, suc, ◌+◌, ◌<◌, ◌≤◌, ◌==◌, Bool, true, false, List, [], ◌∷◌, ◌++◌, length, take, drop, slice_get, Option, Some, None, refl, sym, ◌∙◌, ap, subst, arith, add-one, append_assoc}
+use Rattle.std.specs.Prelude.{if◌then◌else◌}
 use Rattle.std.proofs.lemmas.Option.{same_Some}
-use Rattle.std.proofs.lemmas.List.{append-nil, length-append, take_all}
+use Rattle.std.proofs.lemmas.List.{append-nil}
 use Rattle.std.proofs.lemmas.List.Elements.{filter_map-append}
 use Rattle.ct_word.specs.declared.names.Nexus.{Nexus}
-use Rattle.ct_word.specs.Nexuses.{no_nexuses}
 use Rattle.ct_sense.specs.declared.reply.Reply.{Reply}
 use Rattle.ct_tmf.specs.declared.function.Function.{Function}
 use Rattle.ct_tmf.specs.declared.function.Function.TheVariants.{AbortTask, AbortTaskSet, ClearTaskSet, LunReset, NexusReset, QueryTask, QueryTaskSet, ClearAca}
@@ -16,12 +14,11 @@ use Rattle.ct_book.specs.declared.event.Event.{Event}
 use Rattle.ct_book.specs.declared.event.Event.TheVariants.{Came, Enter, Turned, Begun, Granted, Moved, Ended, Cut, Asked, Closed, Deliver}
 use Rattle.ct_book.specs.declared.event.Why.TheVariants.{By, Medium}
 use Rattle.ct_book.specs.declared.event.Logged.{Logged}
-use Rattle.ct_book.specs.declared.event.Entry.{Entry}
 use Rattle.ct_book.specs.Journals.{KeptWork, numbered, works_in}
 use Rattle.ct_book.specs.Histories.{cut_at, cut_by, with_other, with_cut, others_of, set_of, set_by, entries_at, history_behind, history_of}
 use Rattle.ct_book.specs.Kept.{IsSettled, IsSettledFrom}
 use Rattle.ct_book.proofs.Places.{numbered-left}
-use Rattle.ct_book.proofs.Pages.{works-cons, works-push}
+use Rattle.ct_book.proofs.Pages.{works-cons}
 
 pub take-more : {X : Type 0} (xs : List X) (i : ℕ) (x : X) → slice_get xs i ≡ Some x → take (i + 1) xs ≡ take i xs ++ x ∷ []
 take-more xs i x h = rw add-one (more xs i h) where

@@ -1,7 +1,7 @@
 -- The journal of a book as its works, replies and events change.
-use Rattle.std.proofs.Common.{◌≡◌, ◌⊎◌, inl, inr, ℕ, zero, suc, ◌+◌, ◌-◌, ◌<◌, ◌≤◌, Bool, true, false, List, [], ◌∷◌, ◌++◌, length, map, slice_get, slice_set, Option, Some, None, is_some, IsSome, IfSome, refl, sym, ◌∙◌, ap, subst, arith, sub-one}
+use Rattle.std.proofs.Common.{◌≡◌, inl, inr, ℕ, zero, suc, ◌+◌, ◌-◌, ◌<◌, ◌≤◌, true, false, List, [], ◌∷◌, ◌++◌, length, map, slice_get, slice_set, Option, Some, None, is_some, IsSome, IfSome, refl, sym, ◌∙◌, ap, subst, arith, sub-one}
 use Rattle.std.specs.Prelude.{option_and_then, option_map, IsSomeAnd, if◌then◌else◌}
-use Rattle.std.specs.List.{filter_map, cons_option}
+use Rattle.std.specs.List.{cons_option}
 use Rattle.std.proofs.lemmas.Option.{same_Some, none-some, slice_get_within, slice_get_cases, slice_get-map}
 use Rattle.std.proofs.lemmas.List.{map-append, length-append, length-map, append-nil}
 use Rattle.std.proofs.lemmas.List.Elements.{filter_map-append}
@@ -15,8 +15,8 @@ use Rattle.ct_book.specs.declared.event.Event.TheVariants.{Came, Enter, Turned, 
 use Rattle.ct_book.specs.declared.event.Why.TheVariants.{By, Medium}
 use Rattle.ct_book.specs.declared.event.Logged.{Logged}
 use Rattle.ct_book.specs.Journals.{KeptWork, BookState, told_in, is_command, line_of, has_room, with_work, arrived, numbered, works_in, reply_in, reply_at, IsInOrder, IsNumberedFrom}
-use Rattle.ct_book.specs.Kept.{CanBePushed, IsCommandNo, IsFunctionNo, IsReason, work_at, logged_with, logged_all, IsSettled, IsSettledFrom, IsKept, IsBodyOf, AreKept, HasNexus}
-use Rattle.ct_book.proofs.Places.{get-push, get-write, numbered-left, numbered-within, numbered-stays, numbered-last, numbered-apart, numbered-place}
+use Rattle.ct_book.specs.Kept.{CanBePushed, work_at, logged_with, logged_all, IsSettled, IsSettledFrom, IsKept, IsBodyOf, AreKept, HasNexus}
+use Rattle.ct_book.proofs.Places.{get-push, get-write, numbered-within, numbered-stays, numbered-last, numbered-apart}
 
 -- how many works a journal has, by its first event and the others
 pub works-cons : (logged : Logged) (journal : List Logged) → length (works_in (logged ∷ journal)) ≡ length (works_in journal) + length (works_in (logged ∷ []))
@@ -290,12 +290,17 @@ nexus-at works bodies zero n all = tt
 nexus-at works bodies (suc before) n all = nexus-place works bodies before n all
 
 -- the body under a number whose list wasn't taken
-pub body-of : (works : List KeptWork) (bodies : List (Option (Kept ℕ))) (number : ℕ) (body : Kept ℕ) → AreKept works bodies → slice_get bodies (number - 1) ≡ Some (Some body) → 0 < number → IfSome (numbered number works) (λ came. IsBodyOf came body)
-body-of works bodies zero body all h one = absurd (omega arith)
-body-of works bodies (suc before) body all h one = by_cases (slice_get works before) refl where
-  by_cases : (o : Option KeptWork) → slice_get works before ≡ o → IfSome o (λ came. IsBodyOf came body)
-  by_cases None e = tt
-  by_cases (Some came) e = all before came (Some body) e (rw sub-one at h)
+pub body-of : (works : List KeptWork) (bodies : List (Option (Kept ℕ))) (number : ℕ) (body : Kept ℕ) → length bodies ≡ length works → AreKept works bodies → slice_get bodies (number - 1) ≡ Some (Some body) → 0 < number → IsSomeAnd (numbered number works) (λ came. IsBodyOf came body)
+body-of works bodies zero body n all h one = absurd (omega arith)
+body-of works bodies (suc before) body n all h one = by_cases (slice_get works before) refl where
+  at : slice_get bodies before ≡ Some (Some body)
+  at = rw sub-one at h
+
+  by_cases : (o : Option KeptWork) → slice_get works before ≡ o → IsSomeAnd o (λ came. IsBodyOf came body)
+  by_cases None e =
+      let within : before < length bodies = slice_get_within bodies before (Some body) at in
+      elim (slice_get_cases works before).1 [ inl found ↦ absurd (none-some found.0 (sym e ∙ found.2)) | inr past ↦ absurd (omega (arith, past.0)) ]
+  by_cases (Some came) e = all before came (Some body) e at
 
 pub untaken : (bodies : List (Option (Kept ℕ))) (number : ℕ) → numbered number (map is_some bodies) ≡ Some true → (0 < number) × (number - 1 < length bodies) × ((body : Option (Kept ℕ)) → slice_get bodies (number - 1) ≡ Some body → is_some body ≡ true)
 untaken bodies zero h = absurd cc
@@ -313,7 +318,8 @@ untaken bodies (suc before) h =
 pub fresh-last : (works : List KeptWork) (bodies : List (Option (Kept ℕ))) (replies : List (Option Reply)) (came : KeptWork) (body : Option (Kept ℕ)) (number : ℕ) → length bodies ≡ length works → length replies ≡ length works → number ≡ length works + 1 → is_some body ≡ is_command came
     → (numbered number (works ++ came ∷ []) ≡ Some came) × (reply_in (replies ++ None ∷ []) number ≡ None) × (numbered number (map is_some (bodies ++ body ∷ [])) ≡ Some (is_command came))
 fresh-last works bodies replies came body number n m e same =
-    let size = length-map bodies (λ (b : Option (Kept ℕ)). is_some b) in
-    (numbered-last number works came (omega arith),
-     ap (option_and_then (λ reply. reply)) (numbered-last number replies None (omega arith)),
-     rw map-append (numbered-last number (map is_some bodies) (is_some body) (omega arith) ∙ ap Some same))
+    let size = length-map bodies (λ (b : Option (Kept ℕ)). is_some b) in (
+      numbered-last number works came (omega arith),
+      ap (option_and_then (λ reply. reply)) (numbered-last number replies None (omega arith)),
+      rw map-append (numbered-last number (map is_some bodies) (is_some body) (omega arith) ∙ ap Some same),
+    )

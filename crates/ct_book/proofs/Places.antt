@@ -1,5 +1,5 @@
 -- Places in lists, from 0, and numbers, from 1.
-use Rattle.std.proofs.Common.{◌≡◌, ◌⊎◌, inl, inr, ℕ, zero, suc, ◌+◌, ◌-◌, ◌<◌, ◌≤◌, List, [], ◌∷◌, ◌++◌, length, slice_get, slice_set, Option, Some, None, refl, ap, arith, sub-one}
+use Rattle.std.proofs.Common.{◌≡◌, ◌⊎◌, inl, inr, ℕ, zero, suc, ◌-◌, ◌<◌, ◌≤◌, List, [], ◌∷◌, ◌++◌, length, slice_get, slice_set, Some, refl, ap, arith, sub-one}
 use Rattle.std.proofs.lemmas.Option.{same_Some, slice_get_within}
 use Rattle.ct_book.specs.Journals.{numbered}
 
@@ -52,8 +52,3 @@ pub numbered-apart : {X : Type 0} (number : ℕ) (xs : List X) (other : ℕ) (y 
 numbered-apart zero xs other y given h = refl
 numbered-apart (suc before) xs zero y given h = absurd (omega arith)
 numbered-apart (suc before) xs (suc other) y given h = rw sub-one (get-apart xs other y before (λ e. h (ap suc e)))
-
--- an item with a number stands at the place below it
-pub numbered-place : {X : Type 0} (number : ℕ) (xs : List X) (x : X) → numbered number xs ≡ Some x → (number ≡ suc (number - 1)) × (slice_get xs (number - 1) ≡ Some x) × (number - 1 < length xs)
-numbered-place zero xs x h = absurd cc
-numbered-place (suc before) xs x h = (omega arith, rw sub-one h, omega (arith, slice_get_within xs before x h))

@@ -11,7 +11,7 @@ use Rattle.ct_book.specs.declared.event.Why.{Why}
 use Rattle.ct_book.specs.declared.event.Why.TheVariants.{By, Medium}
 use Rattle.ct_book.specs.declared.event.Logged.{Logged}
 use Rattle.ct_book.specs.Works.{IsReady}
-use Rattle.ct_book.specs.Journals.{KeptWork, BookState, numbered, works_in, is_command, reply_in, reply_of, reply_at, IsNumbered}
+use Rattle.ct_book.specs.Journals.{KeptWork, BookState, numbered, works_in, is_command, reply_of, reply_at, IsNumbered}
 
 -- the work that counts with an event: that of an arrival
 abbrev pub work_at : List KeptWork → Event → Option KeptWork

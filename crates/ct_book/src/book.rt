@@ -1,4 +1,4 @@
-ghost use Rattle.std.specs.Prelude.{◌≡◌, ◌+◌, ◌-◌, ◌<◌, ◌≤◌, ◌^◌, ◌++◌, ◌∷◌, [], length, slice_get, slice_set, true, false, is_some, IfOk, IfSome, if◌then◌else◌};
+ghost use Rattle.std.specs.Prelude.{◌≡◌, ◌+◌, ◌-◌, ◌<◌, ◌≤◌, ◌^◌, ◌++◌, ◌∷◌, [], length, slice_get, slice_set, true, false, is_some, IfOk, IfSome, IsSomeAnd, if◌then◌else◌};
 ghost use Rattle.std.specs.Option.{option_copied};
 ghost use Rattle.ct_book.specs.Journals.{numbered, has_room, with_work, with_event, with_reply, without_body, reply_of, is_command, line_of};
 ghost use Rattle.ct_book.specs.Kept.{empty_book, events_for, IsBodyOf, IsKept, IsCommandNo, CanBePushed, HasNexus, IsFresh, IsSound, logged_in};
@@ -113,7 +113,7 @@ impl Book {
     /// Takes the empty list of a command, with room for its data.
     pub fn take_body(&mut self, no: CmdNo) -> Reserve<u8>
         requires { numbered no self.old.untaken ≡ Some true }
-        ensures ready { IfSome (numbered no self.old.works) (λ work. IsBodyOf work result) }
+        ensures ready { IsSomeAnd (numbered no self.old.works) (λ work. IsBodyOf work result) }
         ensures after { self.new ≡ without_body self.old no }
     {
         match self.bodies.replace(no.number() as usize - 1, None) {

@@ -29,7 +29,16 @@ fn command(alloc: Global, nexus: Nexus, cdb: &[u8]) -> Result<Work<Cmd>, Fail>
     requires { IsNexus nexus }
     ensures { IfOk result (λ work. is_command work ≡ true) }
 {
-    let cmd = Cmd::new(alloc, 7, nexus, 1, Tag(3), Attr2::Simple, cdb, Bytes::new(alloc))?;
+    let cmd = Cmd::new(
+        alloc,
+        7,
+        nexus,
+        1,
+        Tag(3),
+        Attr2::Simple,
+        cdb,
+        Bytes::new(alloc),
+    )?;
     Ok(Work::Cmd(cmd))
 }
 
@@ -87,12 +96,15 @@ fn has_reply(book: &Book, no: CmdNo) -> bool
 // Keeps a reply, where the number is that of a command without one.
 fn answer(alloc: Global, book: &mut Book, no: CmdNo) {
     if is_command(book, no) && book.reply(no).is_none() {
-        book.answer(no, Reply {
-            status: Status::Good,
-            sense: None,
-            descriptor: false,
-            body: Bytes::new(alloc),
-        });
+        book.answer(
+            no,
+            Reply {
+                status: Status::Good,
+                sense: None,
+                descriptor: false,
+                body: Bytes::new(alloc),
+            },
+        );
     }
 }
 
@@ -135,25 +147,46 @@ fn close(book: &mut Book, no: u32) {
     }
 }
 
+fn counts(book: &Book) -> [u32; 3] {
+    [book.len(), book.count(), book.spare()]
+}
+
 #[test]
 fn fills_a_book(rt: HostRuntime) -> Result<(), Fail> {
     let alloc = rt.alloc();
     let mut book = Book::open(alloc, ROOM)?;
-    assert_eq!(rt; (book.len(), book.count(), book.spare()), (0, 0, 10 + 30 + 12));
+    assert_eq!(rt; counts(&book), [0, 0, 10 + 30 + 12]);
     assert_eq!(rt; read(alloc, &mut book, OWN, 2)?, 1);
     assert_eq!(rt; ask(&mut book), 2);
-    assert_eq!(rt; (book.len(), book.count(), book.spare()), (2, 2, 50));
-    let first = CmdNo::new(1);
-    assert!(rt; book.reply(first).is_none());
-    end(alloc, &mut book, 1);
-    assert!(rt; book.reply(first).is_some());
-    assert!(rt; book.work(CmdNo::new(0)).is_none() && book.work(CmdNo::new(3)).is_none());
-    assert!(rt; is_command(&book, first) && is_function(&book, CmdNo::new(2)));
-    assert_eq!(rt; book.len(), 3);
-    if book.len() == 3 {
-        let last = Event::Ended { no: first };
-        assert_eq!(rt; *book.event(2), last);
+    assert_eq!(rt; counts(&book), [2, 2, 50]);
+    let works = [0, 1, 2, 3].map(|no| is_work(&book, CmdNo::new(no)));
+    assert_eq!(rt; works, [false, true, true, false]);
+    Ok(())
+}
+
+fn first_event(book: &Book) -> Option<Event> {
+    if book.len() > 0 {
+        Some(*book.event(0))
+    } else {
+        None
     }
+}
+
+#[test]
+fn keeps_a_reply(rt: HostRuntime) -> Result<(), Fail> {
+    let alloc = rt.alloc();
+    let mut book = Book::open(alloc, ROOM)?;
+    assert_eq!(rt; read(alloc, &mut book, OWN, 2)?, 1);
+    let no = CmdNo::new(1);
+    assert!(rt; !has_reply(&book, no));
+    answer(alloc, &mut book, no);
+    assert!(rt; has_reply(&book, no));
+    let came = Event::Came {
+        no,
+        node: Node::A,
+        line: 7,
+    };
+    assert_eq!(rt; first_event(&book), Some(came));
     Ok(())
 }
 
@@ -161,15 +194,12 @@ fn fills_a_book(rt: HostRuntime) -> Result<(), Fail> {
 fn hands_back_what_has_no_room(rt: HostRuntime) -> Result<(), Fail> {
     let alloc = rt.alloc();
     let mut book = Book::open(alloc, ROOM)?;
-    assert_eq!(rt; read(alloc, &mut book, OWN, 11)?, 0);
-    assert_eq!(rt; read(alloc, &mut book, OWN, 10)?, 1);
-    assert_eq!(rt; read(alloc, &mut book, OWN, 1)?, 0);
-    assert_eq!(rt; ask(&mut book), 2);
+    for (pieces, no) in [(11, 0), (10, 1), (1, 0), (0, 2), (0, 3), (0, 0)] {
+        assert_eq!(rt; read(alloc, &mut book, OWN, pieces)?, no);
+    }
+    assert_eq!(rt; ask(&mut book), 4);
     assert_eq!(rt; ask(&mut book), 0);
-    assert_eq!(rt; read(alloc, &mut book, OWN, 0)?, 3);
-    assert_eq!(rt; read(alloc, &mut book, OTHER, 0)?, 4);
-    assert_eq!(rt; read(alloc, &mut book, OTHER, 0)?, 0);
-    assert_eq!(rt; (book.len(), book.count()), (4, 4));
+    assert_eq!(rt; counts(&book), [4, 4, 48]);
     Ok(())
 }
 

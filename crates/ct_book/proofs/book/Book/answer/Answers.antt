@@ -1,6 +1,6 @@
-use Rattle.std.proofs.Common.{refl, ◌≡◌, arith, None}
+use Rattle.std.proofs.Common.{◌≡◌, arith, None}
 use Rattle.std.proofs.lemmas.Grind.{common_steps}
-use Rattle.ct_book.specs.Journals.{reply_in, is_command}
+use Rattle.ct_book.specs.Journals.{reply_in}
 use Rattle.ct_book.specs.Kept.{IsCommandNo}
 use Rattle.ct_book.specs.contracts.book.Book.{the_view}
 use Rattle.ct_book.proofs.Pages.{given, journal-answer}

@@ -1,5 +1,3 @@
-use Rattle.std.proofs.Common.{◌≡◌, ◌∷◌, [], take}
-use Rattle.ct_book.specs.Histories.{entries_at}
 use Rattle.ct_book.specs.Kept.{logged_in}
 use Rattle.ct_book.proofs.Entries.{closed-set}
 use Rattle.ct_book.proofs.book.Book.entry.Goals as goal

@@ -1,5 +1,4 @@
-use Rattle.std.proofs.Common.{◌≡◌, ◌++◌, ◌∙◌, [], ap, sym}
-use Rattle.std.specs.List.{cons_option}
+use Rattle.std.proofs.Common.{◌∙◌, sym}
 use Rattle.ct_book.specs.Kept.{logged_in}
 use Rattle.ct_book.proofs.Entries.{history-more, history-none}
 use Rattle.ct_book.proofs.book.Book.history.Goals as goal

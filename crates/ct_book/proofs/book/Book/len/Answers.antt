@@ -1,7 +1,5 @@
-use Rattle.std.proofs.Common.{◌≡◌, arith, length, map, is_some, Option, ℕ}
+use Rattle.std.proofs.Common.{arith}
 use Rattle.std.proofs.lemmas.Grind.{common_steps}
-use Rattle.std.proofs.lemmas.List.{length-map}
-use Rattle.ct_word.specs.Kept.{Kept}
 use Rattle.ct_book.proofs.Pages.{nexus-at}
 use Rattle.ct_book.proofs.book.Book.len.Goals as goal
 

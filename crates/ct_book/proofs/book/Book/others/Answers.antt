@@ -1,4 +1,4 @@
-use Rattle.std.proofs.Common.{◌≡◌, ◌≤◌, ◌<◌, ◌+◌, ◌-◌, ◌∷◌, ◌∙◌, ap, sym, length, take, drop, arith, slice_get, Some}
+use Rattle.std.proofs.Common.{◌≡◌, ◌<◌, ◌+◌, ◌-◌, ◌∙◌, ap, sym, take, drop, arith, slice_get, Some}
 use Rattle.ct_book.specs.Histories.{others_of, cut_by}
 use Rattle.ct_book.specs.Kept.{logged_in}
 use Rattle.ct_book.proofs.Entries.{drop-front, others-cut}

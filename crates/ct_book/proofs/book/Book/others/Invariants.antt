@@ -1,4 +1,4 @@
-use Rattle.std.proofs.Common.{◌≡◌, ◌≤◌, length, take, drop}
+use Rattle.std.proofs.Common.{◌≡◌, ◌≤◌, take, drop}
 use Rattle.ct_book.specs.Histories.{others_of, cut_by}
 use Rattle.ct_book.proofs.book.Book.others.Given as goal
 

@@ -1,9 +1,9 @@
-use Rattle.std.proofs.Common.{refl, ◌≡◌, ◌++◌, ◌<◌, ◌∷◌, [], length, arith, ap, sym}
+use Rattle.std.proofs.Common.{◌<◌, arith}
 use Rattle.std.proofs.lemmas.Grind.{common_steps}
 use Rattle.std.proofs.lemmas.List.{map-append}
 use Rattle.ct_book.specs.Kept.{CanBePushed}
 use Rattle.ct_book.specs.contracts.book.Book.{the_view}
-use Rattle.ct_book.proofs.Pages.{HasJournal, journal-push, told}
+use Rattle.ct_book.proofs.Pages.{journal-push, told}
 use Rattle.ct_book.proofs.book.Book.push.Goals as goal
 
 pub invariant_of-self : goal.invariant_of-self

@@ -1,7 +1,6 @@
-use Rattle.std.proofs.Common.{◌≡◌, ◌-◌, ◌∙◌, ap, arith, slice_get, false, length, map, is_some, Option, Some, true, ℕ}
+use Rattle.std.proofs.Common.{◌≡◌, ◌-◌, ◌∙◌, ap, arith, slice_get, false, map, is_some, Some, true}
 use Rattle.std.proofs.lemmas.Grind.{common_steps}
-use Rattle.std.proofs.lemmas.List.{length-map, map-set}
-use Rattle.ct_word.specs.Kept.{Kept}
+use Rattle.std.proofs.lemmas.List.{map-set}
 use Rattle.ct_book.specs.Journals.{numbered}
 use Rattle.ct_book.proofs.Pages.{untaken, body-of, kept-take}
 use Rattle.ct_book.proofs.book.Book.take_body.Goals as goal
@@ -39,7 +38,7 @@ returns-clause-ready c =
     let item : slice_get i.bodies.items (c.args.no - 1) ≡ Some c.replace.result = rw c.number.ensures at c.replace.ensures.item in
     let body : slice_get i.bodies.items (c.args.no - 1) ≡ Some (Some c.in-Some.body) = item ∙ ap Some c.in-Some.is in
     let given = (untaken i.bodies.items c.args.no stands).0 in
-    rw (← c.self.view_is) (body-of i.works.items i.bodies.items c.args.no c.in-Some.body c.self.invariant.kept body given)
+    rw (← c.self.view_is) (body-of i.works.items i.bodies.items c.args.no c.in-Some.body c.self.invariant.body_each c.self.invariant.kept body given)
 
 pub returns-clause-after : goal.returns-clause-after
 returns-clause-after c = rw (← c.self.view_is, c.replace.ensures.rest, c.number.ensures, map-set)

@@ -1,10 +1,10 @@
-use Rattle.std.proofs.Common.{refl, ◌≡◌, ◌++◌, ◌+◌, ◌<◌, ◌-◌, ◌∷◌, [], length, map, is_some, arith, ap, sym, ◌∙◌, true}
+use Rattle.std.proofs.Common.{refl, ◌≡◌, ◌+◌, ◌<◌, ◌-◌, length, arith, ap, true}
 use Rattle.std.proofs.lemmas.Grind.{common_steps}
-use Rattle.std.proofs.lemmas.List.{map-append, length-append}
+use Rattle.std.proofs.lemmas.List.{map-append}
 use Rattle.ct_book.specs.Journals.{has_room}
-use Rattle.ct_book.specs.Kept.{CanBePushed, IsKept}
+use Rattle.ct_book.specs.Kept.{IsKept}
 use Rattle.ct_book.specs.contracts.book.Book.{the_view}
-use Rattle.ct_book.proofs.Pages.{HasJournal, journal-add, has-room, with-work, kept-push, fresh-last}
+use Rattle.ct_book.proofs.Pages.{journal-add, has-room, with-work, kept-push, fresh-last}
 use Rattle.ct_book.proofs.book.Book.take_in.Goals as goal
 
 pub invariant_of-self : goal.invariant_of-self

@@ -1,5 +1,4 @@
 use Rattle.std.proofs.Common.{◌-◌}
-use Rattle.ct_book.specs.Kept.{HasNexus}
 use Rattle.ct_book.proofs.Pages.{nexus-place}
 use Rattle.ct_book.proofs.book.Book.work.Goals as goal
 
