@@ -6,7 +6,6 @@ mod cuts;
 mod forms;
 mod lines;
 mod numbers;
-
 mod parts;
 mod rules;
 mod script;
