@@ -1,11 +1,7 @@
 -- The forms of a script's lines: what the words of a line say.
-use Rattle.std.specs.Prelude.{ℕ, ◌-◌, ◌^◌, List, [], ◌∷◌, ◌==◌, Bool, false, ◌&&◌, bytes_eq, codes, length, if◌then◌else◌, Option, Some, None, option_map, Result, Ok, Err}
+use Rattle.std.specs.Prelude.{ℕ, ◌-◌, ◌^◌, List, [], ◌∷◌, ◌&&◌, bytes_eq, codes, if◌then◌else◌, Option, Some, None, option_map}
 use Rattle.ct_word.specs.declared.names.Node.TheVariants.{A}
-use Rattle.ct_cdb.specs.declared.op.Cdb.{Cdb}
-use Rattle.ct_cdb.specs.declared.op.CdbFault.{CdbFault}
 use Rattle.ct_cdb.specs.declared.op.Attr2.TheVariants.{Simple}
-use Rattle.ct_cdb.specs.Forms.{cdb_of}
-use Rattle.ct_cdb.specs.Performed.{data_length}
 use Rattle.ct_script.specs.declared.script.Word.{Word}
 use Rattle.ct_script.specs.declared.script.Word.TheVariants.{Lun, Port, Map, Cmd, Step, Drain, Sync}
 use Rattle.ct_script.specs.ByteText.{bytes_of_text, at_most}

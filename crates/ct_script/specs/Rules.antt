@@ -4,7 +4,6 @@ use Rattle.std.specs.List.{list_any, list_all, All}
 use Rattle.ct_word.specs.Nexuses.{IsNexus}
 use Rattle.ct_word.specs.declared.names.LunNo.{LunNo}
 use Rattle.ct_word.specs.declared.names.Nexus.{Nexus}
-use Rattle.ct_word.specs.declared.names.Tag.{Tag}
 use Rattle.ct_cdb.specs.declared.op.Cdb.{Cdb}
 use Rattle.ct_cdb.specs.declared.op.CdbFault.{CdbFault}
 use Rattle.ct_cdb.specs.Forms.{cdb_of}

@@ -1,5 +1,5 @@
 -- What is next is done until nothing can be done, and that ends.
-use Rattle.std.proofs.Common.{◌≡◌, ℕ, zero, suc, ◌+◌, ◌-◌, ◌≤◌, ◌<◌, Bool, true, false, ◌||◌, cond, eq-eqb, List, [], ◌∷◌, ◌++◌, Option, Some, None, length, refl, sym, ap, ◌∙◌, subst, arith, length-append, append-nil}
+use Rattle.std.proofs.Common.{◌≡◌, ℕ, ◌+◌, ◌-◌, ◌≤◌, ◌<◌, Bool, true, false, ◌||◌, cond, eq-eqb, List, [], ◌∷◌, ◌++◌, Option, Some, None, length, refl, sym, ap, ◌∙◌, subst, arith, length-append, append-nil}
 use Rattle.std.specs.Prelude.{◌≢◌, IsSome}
 use Rattle.ct_book.specs.declared.event.Logged.{Logged}
 use Rattle.ct_machine.specs.declared.act.Act.TheVariants as act
@@ -7,7 +7,7 @@ use Rattle.ct_machine.specs.declared.act.Answer.{Answer}
 use Rattle.ct_machine.specs.declared.act.Answer.TheVariants as answer
 use Rattle.ct_machine.specs.declared.act.Opening.{Opening}
 use Rattle.ct_machine.specs.Acts.{act_of}
-use Rattle.ct_machine.specs.Runs.{replay, IsRun}
+use Rattle.ct_machine.specs.Runs.{replay}
 use Rattle.ct_machine.specs.Laws.{is_void, ActsWrite, reserved_events}
 use Rattle.ct_pair.specs.Pairs.{PairState, Acts}
 use Rattle.std.specs.Prelude.{is_some}

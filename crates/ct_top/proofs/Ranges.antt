@@ -1,5 +1,5 @@
 -- Blocks and block operations of a script are in their ranges.
-use Rattle.std.proofs.Common.{◌≡◌, ℕ, zero, suc, ◌+◌, ◌≤◌, ◌<◌, Bool, true, false, List, [], ◌∷◌, Option, Some, None, Result, Ok, Err, length, refl, sym, ap, ◌∙◌, subst, arith, cond, ◌||◌}
+use Rattle.std.proofs.Common.{◌≡◌, ℕ, zero, suc, ◌+◌, ◌≤◌, ◌<◌, Bool, true, false, List, [], ◌∷◌, Result, Ok, Err, length, refl, ap, arith, cond, ◌||◌}
 use Rattle.std.specs.Prelude.{IfSome, sum_by, count_by, nat_lt}
 use Rattle.std.proofs.lemmas.Bool.{ltb-false}
 use Rattle.std.proofs.lemmas.List.Sums.{sum_by-cons}
@@ -16,8 +16,8 @@ use Rattle.ct_exec.specs.Executions.{plan_by, plan_in}
 use Rattle.ct_script.specs.declared.script.Line.{Line}
 use Rattle.ct_script.specs.declared.script.Word.{Word}
 use Rattle.ct_script.specs.declared.script.Word.TheVariants.{Lun, Port, Map, Cmd, Step, Drain, Sync}
-use Rattle.ct_script.specs.Rules.{IsInRange, AreInRange, IsWithin, is_over, is_command, line_asked, word_line_asked, cdb_asked, data_bytes}
-use Rattle.ct_top.specs.Commands.{command_in, pieces_by, pieces_in, room_of, word_blocks, declared_blocks}
+use Rattle.ct_script.specs.Rules.{IsInRange, AreInRange, IsWithin, is_command, line_asked, word_line_asked, cdb_asked, data_bytes}
+use Rattle.ct_top.specs.Commands.{command_in, pieces_by, pieces_in, room_of, declared_blocks}
 
 pub blocks_in_range : (lines : List Line) → AreInRange lines → IfSome (declared_blocks lines) (λ blocks. (1 ≤ blocks) × (blocks ≤ 65536))
 blocks_in_range [] h = tt

@@ -3,7 +3,6 @@ use Rattle.std.specs.Prelude.{◌≡◌, ℕ, ◌<◌, ◌≤◌, List, [], ◌�
 use Rattle.std.specs.Io.KnownBytes.{Appends}
 use Rattle.ct_io.specs.Causes.{Rose}
 use Rattle.ct_io.specs.Streams.{GivesAll}
-use Rattle.ct_machine.specs.declared.act.Opening.{Opening}
 use Rattle.ct_machine.specs.Runs.{replay, IsRun}
 use Rattle.ct_machine.specs.Laws.{IsLegal, IsLawful}
 use Rattle.ct_script.specs.declared.script.Line.{Line}

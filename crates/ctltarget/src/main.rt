@@ -3,6 +3,7 @@
 
 use ct_io::{StdSink, StdSource};
 use ct_top::{Exit, ScriptFault, Served, What, target_one};
+use std::alloc::Global;
 use std::io::ErrorKind;
 use std::process::ExitCode;
 use std::rt::Env;
@@ -18,19 +19,23 @@ fn main(rt: HostRuntime) -> ExitCode {
 fn serve(rt: &(impl Env + Input + Print + AllocGlobal)) -> Served {
     let words = match env::args(rt) {
         Ok(words) => words,
-        Err(error) if error.kind() == ErrorKind::OutOfMemory => return failed(Exit::Memory),
-        Err(_) => return failed(Exit::Usage),
+        Err(error) if error.kind() == ErrorKind::OutOfMemory => return failed(rt.alloc(), Exit::Memory),
+        Err(_) => return failed(rt.alloc(), Exit::Usage),
     };
     let Ok(words) = words.skip(1).collect(rt.alloc()) else {
-        return failed(Exit::Memory);
+        return failed(rt.alloc(), Exit::Memory);
     };
     let mut source = StdSource::new(rt.reader());
     let mut sink = StdSink::new(io::writer(rt));
     target_one(rt.alloc(), &words, &mut source, &mut sink)
 }
 
-fn failed(exit: Exit) -> Served {
-    Served { exit, sent: 0 }
+fn failed(alloc: Global, exit: Exit) -> Served {
+    Served {
+        exit,
+        sent: 0,
+        ends: Vec::new(alloc),
+    }
 }
 
 // Writes one line on standard error for each status but 0.

@@ -1,5 +1,4 @@
-use Rattle.std.proofs.Common.{◌≡◌, ℕ, ◌≤◌, List, refl, sym, ◌∙◌, subst, arith}
-use Rattle.ct_book.specs.declared.event.Logged.{Logged}
+use Rattle.std.proofs.Common.{sym, ◌∙◌, subst, arith}
 use Rattle.ct_machine.specs.declared.act.Opening.{Opening}
 use Rattle.ct_top.specs.Played.{MayFail, Drains}
 use Rattle.ct_top.proofs.Draining.{drains_idle, drains_more, drains_fewer}

@@ -1,4 +1,4 @@
-use Rattle.std.proofs.Common.{◌≡◌, ℕ, suc, List, ◌∷◌, sym, ◌∙◌, subst, arith}
+use Rattle.std.proofs.Common.{◌≡◌, suc, List, ◌∷◌, sym, ◌∙◌, subst, arith}
 use Rattle.ct_machine.specs.declared.act.Opening.{Opening}
 use Rattle.ct_script.specs.declared.script.Line.{Line}
 use Rattle.ct_script.specs.Rules.{AreInRange}
