@@ -6,7 +6,9 @@
 mod liveness;
 mod safety;
 
-pub use liveness::{acts_write, idle_is_silent, next_does_something, runs_fit_their_room, runs_never_stop};
+pub use liveness::{
+    acts_write, idle_is_silent, next_does_something, runs_fit_their_room, runs_never_stop,
+};
 pub use safety::{
     blocks_are_serial_at_rest, control_is_serial, every_run_is_lawful, runs_answer_each_work_once,
     runs_are_by_cells, runs_are_legal, runs_are_orderly, runs_are_sound, runs_are_timely,

@@ -19,7 +19,10 @@ fn main(rt: HostRuntime) -> ExitCode {
 fn serve(rt: &(impl Env + Input + Print + AllocGlobal)) -> Served {
     let words = match env::args(rt) {
         Ok(words) => words,
-        Err(error) if error.kind() == ErrorKind::OutOfMemory => return failed(rt.alloc(), Exit::Memory),
+        Err(error) if error.kind() == ErrorKind::OutOfMemory => return failed(
+            rt.alloc(),
+            Exit::Memory,
+        ),
         Err(_) => return failed(rt.alloc(), Exit::Usage),
     };
     let Ok(words) = words.skip(1).collect(rt.alloc()) else {
