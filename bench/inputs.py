@@ -39,6 +39,9 @@ def inputs():
         writes = [command(k, 0x2A, 256, random_pairs(256, "")) for k in range(commands)]
         reads = [command(k, 0x28, 256).replace(f" {k} simple", f" {k + 100} simple") for k in range(commands)]
         yield f"reads-{commands}", script(writes + reads)
+    for steps in (16_000, 32_000, 65_000):
+        writes = [command(k, 0x2A, 256, counted(256)) for k in range(64)]
+        yield f"steps-{steps}", script(writes + [f"step 0 {k % 64 + 1} 1" for k in range(steps)])
 
 
 def main():
