@@ -1,3 +1,4 @@
 pub mod Cutting
 pub mod Texts
+pub mod Judging
 pub mod Names

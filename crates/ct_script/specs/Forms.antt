@@ -35,7 +35,7 @@ command_of _ _ _ _ = None
 -- DATA may be missing, and there are then no bytes
 abbrev pub data_of : List (List ℕ) → Option (List ℕ)
 data_of [] = Some []
-data_of (text ∷ []) = at_most 131072 (bytes_of_text text)
+data_of (text ∷ []) = bytes_of_text text
 data_of _ = None
 
 -- `cmd I 0 0 TAG simple CDB` and `cmd I 0 0 TAG simple CDB DATA`

@@ -1,5 +1,5 @@
 -- What a line needs of the lines before it.
-use Rattle.std.specs.Prelude.{◌≡◌, ◌≤◌, ℕ, take, drop, List, ◌==◌, nat_lt, Bool, true, false, ◌&&◌, ◌||◌, not, length, sum_by, count_by, Result, Ok, Err}
+use Rattle.std.specs.Prelude.{◌≡◌, ◌≤◌, ℕ, take, drop, List, [], ◌∷◌, ◌++◌, ◌==◌, nat_lt, Bool, true, false, ◌&&◌, ◌||◌, not, length, sum_by, count_by, Result, Ok, Err}
 use Rattle.std.specs.List.{list_any, list_all, All}
 use Rattle.ct_word.specs.Nexuses.{IsNexus}
 use Rattle.ct_word.specs.declared.names.LunNo.{LunNo}
@@ -78,6 +78,10 @@ word_data_bytes _ = 0
 abbrev pub data_bytes : Line → ℕ
 data_bytes line = word_data_bytes line.word
 
+-- DATA of one line that is more than a line may have
+abbrev pub is_long : Word → Bool
+is_long word = nat_lt 131072 (word_data_bytes word)
+
 -- the block operations that a CDB asks for
 abbrev pub cdb_asked : Result Cdb CdbFault → ℕ
 cdb_asked (Ok cdb) = asked_of cdb.op
@@ -94,6 +98,10 @@ line_asked line = word_line_asked line.word
 -- lines pass a limit: on commands, on DATA of all of them, or on block operations
 abbrev pub is_over : List Line → Bool
 is_over lines = nat_lt 64 (count_by is_command lines) || nat_lt 134217728 (sum_by data_bytes lines) || nat_lt 262144 (sum_by line_asked lines)
+
+-- a line behind these passes a limit: on lines, on the DATA of one, or on what all of them add up to
+abbrev pub passes_limit : List Line → Line → Bool
+passes_limit earlier line = nat_lt 65536 line.no || is_long line.word || is_over (earlier ++ line ∷ [])
 
 -- numbers are in the ranges of their places: the blocks of a unit, a command's nexus, the block operations of a step
 abbrev pub IsInRange : Word → Type 0

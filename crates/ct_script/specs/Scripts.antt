@@ -1,5 +1,5 @@
 -- The grammar of scripts, line by line.
-use Rattle.std.specs.Prelude.{ℕ, ◌+◌, List, [], ◌∷◌, ◌++◌, ◌==◌, ◌≡◌, nat_lt, ◌||◌, length, if◌then◌else◌, Option, Some, None, Result, Ok, Err}
+use Rattle.std.specs.Prelude.{ℕ, ◌+◌, List, [], ◌∷◌, ◌++◌, ◌==◌, ◌≡◌, length, if◌then◌else◌, Option, Some, None, Result, Ok, Err}
 use Rattle.std.specs.List.{slice_split}
 use Rattle.ct_script.specs.declared.script.Line.{Line}
 use Rattle.ct_script.specs.declared.script.Word.{Word}
@@ -10,7 +10,7 @@ use Rattle.ct_script.specs.declared.script.ParseError.{ParseError}
 use Rattle.ct_script.specs.declared.script.ParseError.TheVariants as errors
 use Rattle.ct_script.specs.Words.{words_of}
 use Rattle.ct_script.specs.Forms.{word_of}
-use Rattle.ct_script.specs.Rules.{is_misnamed, is_over}
+use Rattle.ct_script.specs.Rules.{is_misnamed, passes_limit}
 
 abbrev pub line_at : ℕ → Word → Line
 line_at number word = record { no = number; word = word }
@@ -19,7 +19,7 @@ line_at number word = record { no = number; word = word }
 abbrev pub judged : List Line → ℕ → Word → Result Line What
 judged earlier number word =
     if is_misnamed earlier word then Err Name
-    else if nat_lt 65536 number || is_over (earlier ++ line_at number word ∷ []) then Err Limit
+    else if passes_limit earlier (line_at number word) then Err Limit
     else Ok (line_at number word)
 
 abbrev pub line_by_word : List Line → ℕ → Option Word → Result Line What

@@ -1,19 +1,19 @@
 //! Byte texts: how a script and a report write bytes.
 
-ghost use Rattle.std.specs.Prelude.{◌≡◌, ◌≤◌, ◌<◌, ◌^◌, ◌∷◌, IfOk, vec_len};
+ghost use Rattle.std.specs.Prelude.{◌≡◌, ◌≤◌, ◌<◌, ◌^◌, ◌∷◌, IfOk, option_map, take, vec_len};
 ghost use Rattle.std.specs.List.{slice_split};
 ghost use Rattle.ct_word.specs.Decimals.{decimal_of};
-ghost use Rattle.ct_script.specs.ByteText.{pairs_of, single, repeated, bytes_of_parts, is_star, piece_of, bytes_of_text, at_most};
+ghost use Rattle.ct_script.specs.ByteText.{pairs_of, single, repeated, bytes_of_parts, is_star, piece_of, bytes_of_text};
 ghost use Rattle.ct_script.specs.Reading.{Extends};
 
 use crate::cuts::cut;
 use ct_word::{Bytes, NoMemory, read_decimal};
 use std::alloc::Global;
 
-/// The bytes that a byte text stands for. None where it is no byte text, or stands for more than `most` bytes.
+/// The bytes that a byte text stands for, of which the first `most` are kept. None where it is no byte text.
 pub fn read_bytes(alloc: Global, text: &[u8], most: usize) -> Result<Option<Bytes>, NoMemory>
     requires { most < 2 ^ 32 }
-    ensures { IfOk result (λ found. found ≡ at_most most (bytes_of_text text.now)) }
+    ensures { IfOk result (λ found. found ≡ option_map (take most) (bytes_of_text text.now)) }
 {
     let mut bytes = Vec::new(alloc);
     let mut rest = Some(text);
@@ -27,7 +27,7 @@ pub fn read_bytes(alloc: Global, text: &[u8], most: usize) -> Result<Option<Byte
     Ok(Some(Bytes::from_vec(bytes)))
 }
 
-// Adds the bytes of a piece. False where it is no piece, or makes the bytes more than `most`.
+// Adds the bytes of a piece, up to `most` in all. False where it is no piece.
 fn push_piece(bytes: &mut Vec<u8>, piece: &[u8], most: usize) -> Result<bool, NoMemory>
     requires small { most < 2 ^ 32 }
     requires within { vec_len bytes.old ≤ most }
@@ -66,11 +66,13 @@ fn push_pairs(bytes: &mut Vec<u8>, pairs: &[u8], most: usize) -> Result<bool, No
 {
     let start = bytes.len();
     let count = pairs.len() / 2;
-    if count == 0 || count > most - start {
+    if count == 0 {
         return Ok(false);
     }
     bytes.resize(start + count, 0)?;
-    Ok(hex::decode_to_slice(pairs, &mut bytes[start..]).is_ok())
+    let read = hex::decode_to_slice(pairs, &mut bytes[start..]).is_ok();
+    bytes.truncate(most);
+    Ok(read)
 }
 
 // Adds a byte as often as the count says.
@@ -80,8 +82,10 @@ fn push_run(bytes: &mut Vec<u8>, pair: &[u8], count: &[u8], most: usize) -> Resu
     ensures { IfOk result (λ ok. Extends most bytes.old.items (repeated (single (pairs_of pair.now)) (decimal_of count.now)) ok bytes.new.items) }
 {
     match (one_byte(pair), read_decimal(count)) {
-        (Some(byte), Some(count)) if count > 0 && count <= (most - bytes.len()) as u64 => {
-            bytes.resize(bytes.len() + count as usize, byte)?;
+        (Some(byte), Some(count)) if count > 0 => {
+            let room = most - bytes.len();
+            let count = count.min(room as u64) as usize;
+            bytes.resize(bytes.len() + count, byte)?;
             Ok(true)
         }
         _ => Ok(false),

@@ -1,8 +1,9 @@
 //! The forms of a script's lines: what the words of a line say.
 
-ghost use Rattle.std.specs.Prelude.{◌≡◌, ◌-◌, ◌^◌, IfOk, IfSome, bytes_eq};
+ghost use Rattle.std.specs.Prelude.{◌≡◌, ◌-◌, ◌^◌, IfOk, IfSome, option_map, take, bytes_eq};
 ghost use Rattle.ct_script.specs.Rules.{IsInRange};
 ghost use Rattle.ct_script.specs.ByteText.{bytes_of_text, at_most};
+ghost use Rattle.ct_script.specs.Reading.{kept};
 ghost use Rattle.ct_script.specs.Words.{number_in};
 ghost use Rattle.ct_script.specs.Forms.{lun_of, port_of, map_of, cmd_of, command_of, data_of, step_of, drain_of, sync_of, word_of};
 
@@ -17,12 +18,13 @@ use std::alloc::Global;
 /// The most bytes of a CDB.
 const MAX_CDB_BYTES: usize = 32;
 
-/// The most bytes of DATA.
-const MAX_DATA_BYTES: usize = 131_072;
+/// The most bytes of DATA that are kept: one more than a line may have.
+const KEPT_DATA_BYTES: usize = 131_073;
 
-/// What the words of a line say. None where they are in no form.
+/// What the words of a line say, but of DATA that is longer than a line may have just one byte more than that. None where
+/// they are in no form.
 pub fn read_word(alloc: Global, mut words: Parts<'_>) -> Result<Option<Word>, NoMemory>
-    ensures word { IfOk result (λ word. word ≡ word_of words.entry) }
+    ensures word { IfOk result (λ word. word ≡ option_map kept (word_of words.entry)) }
     ensures in_range { IfOk result (λ word. IfSome word IsInRange) }
 {
     let Some(name) = words.next() else {
@@ -49,7 +51,7 @@ pub fn read_word(alloc: Global, mut words: Parts<'_>) -> Result<Option<Word>, No
 
 // `lun 0 blocks N`
 fn lun_form(mut words: Parts<'_>) -> Option<Word>
-    ensures word { result ≡ lun_of words.entry }
+    ensures word { result ≡ option_map kept (lun_of words.entry) }
     ensures in_range { IfSome result IsInRange }
 {
     let lun = words.next()?;
@@ -66,7 +68,7 @@ fn lun_form(mut words: Parts<'_>) -> Option<Word>
 
 // `port 0 a`
 fn port_form(mut words: Parts<'_>) -> Option<Word>
-    ensures word { result ≡ port_of words.entry }
+    ensures word { result ≡ option_map kept (port_of words.entry) }
     ensures in_range { IfSome result IsInRange }
 {
     let port = words.next()?;
@@ -82,7 +84,7 @@ fn port_form(mut words: Parts<'_>) -> Option<Word>
 
 // `map I 0 0 0`
 fn map_form(mut words: Parts<'_>) -> Option<Word>
-    ensures word { result ≡ map_of words.entry }
+    ensures word { result ≡ option_map kept (map_of words.entry) }
     ensures in_range { IfSome result IsInRange }
 {
     let init = words.next()?;
@@ -102,7 +104,7 @@ fn map_form(mut words: Parts<'_>) -> Option<Word>
 
 // `cmd I 0 0 TAG simple CDB`, and a last word DATA
 fn cmd_form(alloc: Global, mut words: Parts<'_>) -> Result<Option<Word>, NoMemory>
-    ensures word { IfOk result (λ word. word ≡ cmd_of words.entry) }
+    ensures word { IfOk result (λ word. word ≡ option_map kept (cmd_of words.entry)) }
     ensures in_range { IfOk result (λ word. IfSome word IsInRange) }
 {
     let Some(init) = words.next() else {
@@ -138,7 +140,7 @@ fn command(
     out: Parts<'_>,
 ) -> Result<Option<Word>, NoMemory>
     ensures in_range { IfOk result (λ word. IfSome word IsInRange) }
-    ensures word { IfOk result (λ word. word ≡ command_of (number_in 0 15 init.now) (number_in 0 (2 ^ 32 - 1) tag.now) (at_most 32 (bytes_of_text cdb.now)) (data_of out.entry)) }
+    ensures word { IfOk result (λ word. word ≡ option_map kept (command_of (number_in 0 15 init.now) (number_in 0 (2 ^ 32 - 1) tag.now) (at_most 32 (bytes_of_text cdb.now)) (data_of out.entry))) }
 {
     let Some(init) = number_in(0, 15, init) else {
         return Ok(None);
@@ -146,7 +148,7 @@ fn command(
     let Some(tag) = number_in(0, u32::MAX, tag) else {
         return Ok(None);
     };
-    let Some(cdb) = read_bytes(alloc, cdb, MAX_CDB_BYTES)? else {
+    let Some(cdb) = read_cdb(alloc, cdb)? else {
         return Ok(None);
     };
     let Some(out) = read_data(alloc, out)? else {
@@ -165,14 +167,26 @@ fn command(
     }))
 }
 
+fn read_cdb(alloc: Global, text: &[u8]) -> Result<Option<Bytes>, NoMemory>
+    ensures { IfOk result (λ found. found ≡ at_most 32 (bytes_of_text text.now)) }
+{
+    let Some(cdb) = read_bytes(alloc, text, MAX_CDB_BYTES + 1)? else {
+        return Ok(None);
+    };
+    if cdb.len() > MAX_CDB_BYTES {
+        return Ok(None);
+    }
+    Ok(Some(cdb))
+}
+
 fn read_data(alloc: Global, mut words: Parts<'_>) -> Result<Option<Bytes>, NoMemory>
-    ensures { IfOk result (λ found. found ≡ data_of words.entry) }
+    ensures { IfOk result (λ found. found ≡ option_map (take 131073) (data_of words.entry)) }
 {
     let Some(text) = words.next() else {
         return Ok(Some(Bytes::new(alloc)));
     };
     if words.is_empty() {
-        read_bytes(alloc, text, MAX_DATA_BYTES)
+        read_bytes(alloc, text, KEPT_DATA_BYTES)
     } else {
         Ok(None)
     }
@@ -180,7 +194,7 @@ fn read_data(alloc: Global, mut words: Parts<'_>) -> Result<Option<Bytes>, NoMem
 
 // `step 0 NO N`
 fn step_form(mut words: Parts<'_>) -> Option<Word>
-    ensures word { result ≡ step_of words.entry }
+    ensures word { result ≡ option_map kept (step_of words.entry) }
     ensures in_range { IfSome result IsInRange }
 {
     let lun = words.next()?;
@@ -198,7 +212,7 @@ fn step_form(mut words: Parts<'_>) -> Option<Word>
 
 // `drain 0`
 fn drain_form(mut words: Parts<'_>) -> Option<Word>
-    ensures word { result ≡ drain_of words.entry }
+    ensures word { result ≡ option_map kept (drain_of words.entry) }
     ensures in_range { IfSome result IsInRange }
 {
     let lun = words.next()?;
@@ -210,7 +224,7 @@ fn drain_form(mut words: Parts<'_>) -> Option<Word>
 
 // `sync`
 fn sync_form(words: Parts<'_>) -> Option<Word>
-    ensures word { result ≡ sync_of words.entry }
+    ensures word { result ≡ option_map kept (sync_of words.entry) }
     ensures in_range { IfSome result IsInRange }
 {
     if words.is_empty() {

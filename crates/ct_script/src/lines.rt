@@ -1,7 +1,7 @@
 //! From a script's bytes to its lines.
 
 ghost use Rattle.std.specs.Prelude.{◌≡◌, ◌≤◌, ◌==◌, ◌++◌, ◌∷◌, [], false, length, if◌then◌else◌, IfOk, OnOk};
-ghost use Rattle.ct_script.specs.Rules.{IsInRange, is_misnamed, is_over};
+ghost use Rattle.ct_script.specs.Rules.{IsInRange, is_misnamed, is_over, passes_limit};
 ghost use Rattle.ct_script.specs.Scripts.{line_of, script_of, fault_at, Gives, GivesLine};
 
 use crate::forms::read_word;
@@ -17,6 +17,9 @@ const MAX_LINES: u32 = 65_536;
 
 /// The most commands of a script.
 const MAX_COMMANDS: u64 = 64;
+
+/// The most bytes of DATA of a line.
+const MAX_LINE_DATA_BYTES: u64 = 131_072;
 
 /// The most bytes of DATA of a script.
 const MAX_DATA_BYTES: u64 = 134_217_728;
@@ -70,7 +73,7 @@ fn read_line(alloc: Global, draft: &Draft, no: u32, text: &[u8]) -> Result<Line,
         return Err(fault_at(no, What::Name));
     }
     let line = Line { no, word };
-    if no > MAX_LINES || draft.is_over_with(&line) {
+    if draft.passes_limit(&line) {
         return Err(fault_at(no, What::Limit));
     }
     Ok(line)
@@ -127,10 +130,12 @@ impl Draft {
         is_misnamed(self.settings < lines.len(), &lines[..self.settings], word)
     }
 
-    fn is_over_with(&self, line: &Line) -> bool
-        ensures { result ≡ is_over (self.now ++ line.now ∷ []) }
+    fn passes_limit(&self, line: &Line) -> bool
+        ensures { result ≡ passes_limit self.now line.now }
     {
-        self.commands + u64::from(is_command(line)) > MAX_COMMANDS
+        line.no > MAX_LINES
+            || data_bytes(line) > MAX_LINE_DATA_BYTES
+            || self.commands + u64::from(is_command(line)) > MAX_COMMANDS
             || self.bytes + data_bytes(line) > MAX_DATA_BYTES
             || self.operations + u64::from(line_asked(line)) > MAX_BLOCK_OPERATIONS
     }

@@ -1,5 +1,6 @@
-use Rattle.std.proofs.Common.{◌≡◌, ◌≤◌, Some, length}
-use Rattle.ct_script.specs.ByteText.{bytes_of_text, at_most, joined}
+use Rattle.std.proofs.Common.{◌≡◌, ◌≤◌, Some, length, take}
+use Rattle.std.specs.Prelude.{option_map}
+use Rattle.ct_script.specs.ByteText.{bytes_of_text, joined}
 use Rattle.ct_script.specs.Reading.{bytes_of_rest, rest_size}
 use Rattle.ct_script.proofs.byte_text.read_bytes.Given as goal
 
@@ -7,7 +8,7 @@ use Rattle.ct_script.proofs.byte_text.read_bytes.Given as goal
 abbrev pub invariant-loop-rest : goal.invariant-loop-rest
 invariant-loop-rest l = record {
   within : length l.bytes.items ≤ l.most;
-  all : at_most l.most (joined (Some l.bytes.items) (bytes_of_rest l.rest)) ≡ at_most l.most (bytes_of_text l.text);
+  all : option_map (take l.most) (joined (Some l.bytes.items) (bytes_of_rest l.rest)) ≡ option_map (take l.most) (bytes_of_text l.text);
 }
 
 abbrev pub decreases-loop-rest : goal.decreases-loop-rest
