@@ -8,4 +8,8 @@ pub use ct_machine::{Act, Answer, Opening};
 pub use pair::{End, Pair};
 
 #[cfg(test)]
+mod order_tests;
+#[cfg(test)]
+mod test_acts;
+#[cfg(test)]
 mod tests;

@@ -1,17 +1,14 @@
-ghost use Rattle.std.specs.Prelude.{◌≡◌, ◌≤◌, IfOk, is_none, true, false};
+ghost use Rattle.std.specs.Prelude.{◌≡◌, is_none, true, false};
 ghost use Rattle.std.specs.Bool.{OnTrue, OnFalse};
-ghost use Rattle.ct_word.specs.Nexuses.{IsNexus};
 
 use super::*;
-use ct_book::{Book, Cmd, Event, Why, Work};
-use ct_cdb::Attr2;
+use crate::test_acts::{NEXUS, Said, arrive, next, plain, step};
+use ct_book::{Book, Event, Why, Work};
 use ct_medium::{Backend, Ram};
 use ct_tmf::{Ask, Function};
-use ct_word::{Block, Bytes, CmdNo, Failed, Ha, LunNo, Nexus, NoMemory, Node, Room, Tag};
+use ct_word::{Block, CmdNo, Failed, Ha, LunNo, Node, Room};
 use std::alloc::Global;
 use std::test::Fail;
-
-const NEXUS: Nexus = Nexus { port: 1, init: 2 };
 
 const READ_NOTHING: &[u8] = b"\x28\0\0\0\0\x01\0\0\0\0";
 
@@ -28,67 +25,6 @@ const ROOM: Room = Room {
     functions: 0,
     pieces: 6,
 };
-
-// An answer without what it hands back.
-#[derive(Clone, Copy, Debug, PartialEq, Eq)]
-enum Said {
-    Queued(u32),
-    Turned(u32),
-    NoRoom(u32),
-    Moved(u32),
-    Ended(u32, u32),
-    Blocked(u32),
-    Gone,
-    Nothing,
-    Idle,
-    Other,
-}
-
-fn plain(answer: Answer) -> Said {
-    match answer {
-        Answer::Queued(no) => Said::Queued(no.number()),
-        Answer::Turned(no) => Said::Turned(no.number()),
-        Answer::NoRoom(work) => Said::NoRoom(name(&work)),
-        Answer::Moved(no) => Said::Moved(no.number()),
-        Answer::Ended(no, line) => Said::Ended(no.number(), line),
-        Answer::Blocked(by) => Said::Blocked(by.number()),
-        Answer::Gone => Said::Gone,
-        Answer::Nothing => Said::Nothing,
-        Answer::Idle => Said::Idle,
-        _ => Said::Other,
-    }
-}
-
-// The tag of a command, or the line of a function, that was handed back.
-fn name(work: &Work<Cmd>) -> u32 {
-    match work {
-        Work::Cmd(cmd) => cmd.command().tag.0,
-        Work::Ask(ask) => ask.line,
-    }
-}
-
-// A command of line 7 comes.
-fn arrive<B: Backend>(
-    alloc: Global,
-    pair: &mut Pair<B>,
-    tag: u32,
-    cdb: &[u8],
-    out: &[u8],
-) -> Result<Said, Fail> {
-    let out = Bytes::from_vec(out.to_vec(alloc)?);
-    let cmd = Cmd::new(alloc, 7, NEXUS, 1, Tag(tag), Attr2::Simple, cdb, out)?;
-    Ok(plain(pair.act(Act::Arrive(Node::A, Work::Cmd(cmd)))))
-}
-
-fn step<B: Backend>(pair: &mut Pair<B>, no: u32, blocks: u32) -> Said
-    requires { 1 ≤ blocks }
-{
-    plain(pair.act(Act::Step(CmdNo::new(no), blocks)))
-}
-
-fn next<B: Backend>(pair: &mut Pair<B>) -> Said {
-    plain(pair.act(Act::Next(1)))
-}
 
 // The byte that each block of the data of a command's reply begins with, up to two blocks.
 fn data<B: Backend>(pair: &Pair<B>, no: u32) -> (usize, u8, u8) {
@@ -115,7 +51,7 @@ fn one_command<B: Backend>(alloc: Global, pair: &mut Pair<B>) -> Result<[Said; 7
     let function = plain(pair.act(Act::Arrive(Node::A, Work::Ask(ask))));
     let gone = step(pair, 2, 1);
     let ended = step(pair, 1, 1);
-    let idle = next(pair);
+    let idle = next(pair, 1);
     let nothing = plain(pair.act(Act::Deliver(Node::A)));
     Ok([first, second, function, gone, ended, idle, nothing])
 }
@@ -156,7 +92,7 @@ fn overlap<B: Backend>(alloc: Global, pair: &mut Pair<B>) -> Result<[Said; 6], F
     let repeated = arrive(alloc, pair, 2, READ_NOTHING, &[])?;
     let moved = step(pair, 1, 1);
     let blocked = step(pair, 2, 1);
-    Ok([first, second, repeated, moved, blocked, next(pair)])
+    Ok([first, second, repeated, moved, blocked, next(pair, 1)])
 }
 
 const OVERLAPPED: [Said; 6] = [

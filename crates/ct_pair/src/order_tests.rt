@@ -1,0 +1,453 @@
+//! Commands in pieces against a plain program, which does them one at a time, each whole, in the order in which they
+//! ended.
+
+ghost use Rattle.std.specs.Prelude.{◌≤◌, ◌<◌, ◌^◌, length};
+
+use crate::Pair;
+use crate::test_acts::{Said, arrive, next, step};
+use ct_book::{Book, Event};
+use ct_medium::{Backend, Ram};
+use ct_sense::Status;
+use ct_word::{CmdNo, Ha, LunNo, Room};
+use std::alloc::{AllocError, Global};
+use std::ops::Range;
+use std::test::Fail;
+
+const BLOCK_SIZE: usize = 512;
+
+// No command has more blocks.
+const WHOLE: u32 = 65_536;
+
+const READ_10: u8 = 0x28;
+
+const WRITE_10: u8 = 0x2a;
+
+// READ (10), or WRITE (10) of blocks of one byte.
+#[derive(Clone, Copy)]
+struct Access {
+    first: u8,
+    count: u8,
+    written: Option<u8>,
+}
+
+fn read(first: u8, count: u8) -> Access {
+    Access {
+        first,
+        count,
+        written: None,
+    }
+}
+
+fn write(first: u8, count: u8, byte: u8) -> Access {
+    Access {
+        first,
+        count,
+        written: Some(byte),
+    }
+}
+
+impl Access {
+    fn cdb(&self) -> [u8; 10] {
+        let code = match self.written {
+            Some(_) => WRITE_10,
+            None => READ_10,
+        };
+        [code, 0, 0, 0, 0, self.first, 0, 0, self.count, 0]
+    }
+
+    fn data_out(&self, alloc: Global) -> Result<Vec<u8>, AllocError> {
+        match self.written {
+            Some(byte) => vec![in alloc; byte; BLOCK_SIZE * self.count as usize],
+            None => Ok(Vec::new(alloc)),
+        }
+    }
+
+    fn blocks(&self) -> Range<usize> {
+        let first = self.first as usize;
+        first..first + self.count as usize
+    }
+}
+
+// A command comes, with its number as its tag.
+fn arrive_as<B: Backend>(
+    alloc: Global,
+    pair: &mut Pair<B>,
+    number: u32,
+    command: &Access,
+) -> Result<Said, Fail> {
+    let out = command.data_out(alloc)?;
+    arrive(alloc, pair, number, &command.cdb(), out.as_slice())
+}
+
+// Commands come; whether all enter the task set.
+fn arrive_all<B: Backend>(
+    alloc: Global,
+    pair: &mut Pair<B>,
+    commands: &[Access],
+) -> Result<bool, Fail>
+    requires { length commands.now < 2 ^ 32 }
+{
+    for (place, command) in commands.iter().enumerate() {
+        let number = place as u32 + 1;
+        if arrive_as(alloc, pair, number, command)? != Said::Queued(number) {
+            return Ok(false);
+        }
+    }
+    Ok(true)
+}
+
+// The numbers of the commands that ended, in the order in which they did.
+fn ended(alloc: Global, book: &Book) -> Result<Vec<u32>, AllocError> {
+    let mut order = Vec::new(alloc);
+    for place in 0..book.len() {
+        if let Event::Ended { no } = *book.event(place) {
+            order.push(no.number())?;
+        }
+    }
+    Ok(order)
+}
+
+// A block begins and ends with a byte.
+fn is_block_of(block: &[u8], byte: u8) -> bool {
+    block.len() == BLOCK_SIZE && block.first() == Some(&byte) && block.last() == Some(&byte)
+}
+
+// The data are so many blocks, each of its byte.
+fn are_blocks(body: &[u8], bytes: &[u8]) -> bool {
+    let mut blocks = body.chunks(BLOCK_SIZE);
+    for byte in bytes {
+        match blocks.next() {
+            Some(block) if is_block_of(block, *byte) => {}
+            _ => return false,
+        }
+    }
+    blocks.next().is_none()
+}
+
+// Does a command whole on a disk of one byte a block, and tells whether these are its data.
+fn run_whole(disk: &mut [u8], command: &Access, body: &[u8]) -> bool {
+    match (disk.get_mut(command.blocks()), command.written) {
+        (Some(blocks), Some(byte)) => {
+            blocks.fill(byte);
+            body.is_empty()
+        }
+        (Some(blocks), None) => are_blocks(body, blocks),
+        (None, _) => false,
+    }
+}
+
+// Does the command with a number, and tells whether it was answered so.
+fn run_numbered(disk: &mut [u8], commands: &[Access], book: &Book, number: u32) -> bool {
+    let command = match number {
+        0 => None,
+        number => commands.get(number as usize - 1),
+    };
+    match (command, book.reply(CmdNo::new(number))) {
+        (Some(command), Some(reply)) => {
+            reply.status == Status::Good && run_whole(disk, command, reply.body.as_slice())
+        }
+        _ => false,
+    }
+}
+
+// Does commands in an order, and tells whether each was answered so.
+fn run_in_order(disk: &mut [u8], commands: &[Access], book: &Book, order: &[u32]) -> bool {
+    for number in order {
+        if !run_numbered(disk, commands, book, *number) {
+            return false;
+        }
+    }
+    true
+}
+
+// The blocks of a medium are these, each of its byte.
+fn holds<B: Backend>(medium: &mut B, disk: &[u8]) -> bool {
+    let mut block = [0; BLOCK_SIZE];
+    let mut lba = 0;
+    for byte in disk {
+        if lba >= medium.len()
+            || medium.get(lba, &mut block).is_err()
+            || !is_block_of(&block, *byte)
+        {
+            return false;
+        }
+        lba += 1;
+    }
+    lba == medium.len()
+}
+
+// The replies of a unit and its medium are those of the commands one at a time, each whole, in an order.
+fn is_serial<B: Backend>(
+    alloc: Global,
+    pair: Pair<B>,
+    commands: &[Access],
+    order: &[u32],
+) -> Result<bool, Fail> {
+    let mut end = pair.close();
+    let mut disk = vec![in alloc; 0; end.medium.len() as usize]?;
+    let answered = run_in_order(disk.as_mut_slice(), commands, &end.book, order);
+    Ok(answered && holds(&mut end.medium, disk.as_slice()))
+}
+
+// The commands ended in this order, and it is serial.
+fn ends_in<B: Backend>(
+    alloc: Global,
+    pair: Pair<B>,
+    commands: &[Access],
+    wanted: &[u32],
+) -> Result<bool, Fail> {
+    let order = ended(alloc, pair.book())?;
+    Ok(order.as_slice() == wanted && is_serial(alloc, pair, commands, wanted)?)
+}
+
+// Goes on with whole commands until nothing is left to do.
+fn finish<B: Backend>(pair: &mut Pair<B>, commands: &[Access]) -> bool {
+    for _ in commands {
+        next(pair, WHOLE);
+    }
+    next(pair, WHOLE) == Said::Idle
+}
+
+const FEW: usize = 5;
+
+// Writes that overlap, one that only touches another, and a read across them.
+fn few() -> [Access; FEW] {
+    [
+        write(0, 6, 0x11),
+        write(4, 6, 0x22),
+        write(10, 2, 0x33),
+        write(2, 3, 0x44),
+        read(0, 12),
+    ]
+}
+
+const FEW_BLOCKS: u32 = 12;
+
+const FEW_ROOM: Room = Room {
+    commands: FEW as u32,
+    functions: 0,
+    pieces: 29,
+};
+
+const ORDER_COUNT: usize = 4;
+
+// The orders in which they can end: of the others only the read waits for the third write.
+const ORDERS: [[u32; FEW]; ORDER_COUNT] = [
+    [3, 1, 2, 4, 5],
+    [1, 3, 2, 4, 5],
+    [1, 2, 3, 4, 5],
+    [1, 2, 4, 3, 5],
+];
+
+const BASE: u32 = FEW as u32;
+
+const DIGITS: u32 = 4;
+
+const NUMBERS: u32 = BASE * BASE * BASE * BASE;
+
+// The digits of a number to the base name the commands that are stepped, in so many rounds, each time by so many blocks.
+#[derive(Clone, Copy, Debug)]
+struct Steps {
+    number: u32,
+    rounds: u32,
+    blocks: u32,
+}
+
+fn make_steps<B: Backend>(pair: &mut Pair<B>, steps: Steps)
+    requires { 1 ≤ steps.blocks }
+{
+    for _ in 0..steps.rounds {
+        let mut digits = steps.number;
+        for _ in 0..DIGITS {
+            step(pair, digits % BASE + 1, steps.blocks);
+            digits /= BASE;
+        }
+    }
+}
+
+fn place_among_orders(order: &[u32]) -> Option<usize> {
+    ORDERS.iter().position(|wanted| wanted.as_slice() == order)
+}
+
+// In which of the orders the few commands end, if that is serial.
+fn run_few(alloc: Global, steps: Steps) -> Result<Option<usize>, Fail>
+    requires { 1 ≤ steps.blocks }
+{
+    let ram = Ram::open(alloc, FEW_BLOCKS)?;
+    let room = FEW_ROOM;
+    let mut pair = Pair::open(
+        alloc,
+        Ha::None,
+        LunNo(0),
+        room.commands,
+        room.pieces,
+        room,
+        ram,
+    )?;
+    let commands = few();
+    let entered = arrive_all(alloc, &mut pair, &commands)?;
+    make_steps(&mut pair, steps);
+    let finished = finish(&mut pair, &commands);
+    let order = ended(alloc, pair.book())?;
+    let serial = is_serial(alloc, pair, &commands, order.as_slice())?;
+    if entered && finished && serial {
+        Ok(place_among_orders(order.as_slice()))
+    } else {
+        Ok(None)
+    }
+}
+
+#[test]
+fn overlapping_pieces_end_as_one_at_a_time(rt: HostRuntime) -> Result<(), Fail> {
+    let alloc = rt.alloc();
+    for blocks in [1, 3, 5] {
+        let mut came = [false; ORDER_COUNT];
+        // one round, and as many as the longest command has pieces
+        for rounds in [1, FEW_BLOCKS.div_ceil(blocks)] {
+            for number in 0..NUMBERS {
+                let steps = Steps {
+                    number,
+                    rounds,
+                    blocks,
+                };
+                match run_few(alloc, steps)? {
+                    Some(place) if place < ORDER_COUNT => came[place] = true,
+                    _ => panic!(rt; "{steps:?}"),
+                }
+            }
+        }
+        assert_eq!(rt; came, [true; ORDER_COUNT], "in pieces of {blocks}");
+    }
+    Ok(())
+}
+
+const DEPTH: u32 = 64;
+
+const QUEUE: usize = DEPTH as usize;
+
+const QUEUE_BLOCKS: u32 = 72;
+
+// Room for one command more.
+const QUEUE_ROOM: Room = Room {
+    commands: DEPTH + 1,
+    functions: 0,
+    pieces: 2 * DEPTH + 1,
+};
+
+// A write of two blocks, with a byte of its own.
+fn write_two(first: usize) -> Access
+    requires { first < 255 }
+{
+    let first = first as u8;
+    write(first, 2, first + 1)
+}
+
+// A chain: each conflicts with the one before it.
+fn chain() -> [Access; QUEUE] {
+    let mut commands = [read(0, 0); QUEUE];
+    for (place, command) in commands.iter_mut().enumerate() {
+        *command = write_two(place);
+    }
+    commands
+}
+
+const CHAINS: usize = 8;
+
+const LINKS: usize = 8;
+
+// Chains side by side: each conflicts with the eighth one before it.
+fn chains() -> [Access; QUEUE] {
+    let mut commands = [read(0, 0); QUEUE];
+    for (place, command) in commands.iter_mut().enumerate() {
+        *command = write_two(place % CHAINS * (LINKS + 1) + place / CHAINS);
+    }
+    commands
+}
+
+// The numbers from 1 on.
+fn upwards() -> [u32; QUEUE] {
+    let mut numbers = [0; QUEUE];
+    for (place, number) in numbers.iter_mut().enumerate() {
+        *number = place as u32 + 1;
+    }
+    numbers
+}
+
+// The first link of each chain, the last chain first, then the next link of each.
+fn link_by_link() -> [u32; QUEUE] {
+    let mut numbers = [0; QUEUE];
+    for (place, number) in numbers.iter_mut().enumerate() {
+        *number = (place / CHAINS * CHAINS + CHAINS - place % CHAINS) as u32;
+    }
+    numbers
+}
+
+fn is_turned_away(book: &Book, number: u32) -> bool {
+    match book.reply(CmdNo::new(number)) {
+        Some(reply) => reply.status == Status::TaskSetFull,
+        None => false,
+    }
+}
+
+// A unit with a full task set; whether the commands entered, and one more was turned away.
+fn open_queue(alloc: Global, commands: &[Access]) -> Result<(Pair<Ram>, bool), Fail>
+    requires { length commands.now < 2 ^ 32 }
+{
+    let ram = Ram::open(alloc, QUEUE_BLOCKS)?;
+    let room = QUEUE_ROOM;
+    let mut pair = Pair::open(alloc, Ha::None, LunNo(0), DEPTH, room.pieces, room, ram)?;
+    let entered = arrive_all(alloc, &mut pair, commands)?;
+    let said = arrive_as(alloc, &mut pair, DEPTH + 1, &read(0, 1))?;
+    let turned = said == Said::Turned(DEPTH + 1) && is_turned_away(pair.book(), DEPTH + 1);
+    Ok((pair, entered && turned))
+}
+
+// Steps each command by a block, the last first. Of so many chains the first links move, and each other command waits
+// for the link before it.
+fn first_links_move<B: Backend>(pair: &mut Pair<B>, chains: u32) -> bool {
+    for number in (1..=DEPTH).rev() {
+        let wanted = if number <= chains {
+            Said::Moved(number)
+        } else {
+            Said::Blocked(number - chains)
+        };
+        if step(pair, number, 1) != wanted {
+            return false;
+        }
+    }
+    true
+}
+
+fn step_rounds<B: Backend>(pair: &mut Pair<B>, rounds: usize) {
+    for _ in 0..rounds {
+        for number in (1..=DEPTH).rev() {
+            step(pair, number, 1);
+        }
+    }
+}
+
+#[test]
+fn a_chain_of_64_ends_in_order(rt: HostRuntime) -> Result<(), Fail> {
+    let alloc = rt.alloc();
+    let commands = chain();
+    let (mut pair, full) = open_queue(alloc, &commands)?;
+    assert!(rt; full);
+    assert!(rt; first_links_move(&mut pair, 1));
+    assert!(rt; finish(&mut pair, &commands));
+    assert!(rt; ends_in(alloc, pair, &commands, &upwards())?);
+    Ok(())
+}
+
+#[test]
+fn eight_chains_end_link_by_link(rt: HostRuntime) -> Result<(), Fail> {
+    let alloc = rt.alloc();
+    let commands = chains();
+    let (mut pair, full) = open_queue(alloc, &commands)?;
+    assert!(rt; full);
+    assert!(rt; first_links_move(&mut pair, CHAINS as u32));
+    // each link takes two rounds, of which the first is done
+    step_rounds(&mut pair, 2 * LINKS - 1);
+    assert!(rt; finish(&mut pair, &commands));
+    assert!(rt; ends_in(alloc, pair, &commands, &link_by_link())?);
+    Ok(())
+}

@@ -1,0 +1,79 @@
+//! Acts of the tests, with answers that can be compared.
+
+ghost use Rattle.std.specs.Prelude.{◌≤◌};
+
+use crate::{Act, Answer, Pair};
+use ct_book::{Cmd, Work};
+use ct_cdb::Attr2;
+use ct_medium::Backend;
+use ct_word::{Bytes, CmdNo, Nexus, Node, Tag};
+use std::alloc::Global;
+use std::test::Fail;
+
+pub(crate) const NEXUS: Nexus = Nexus { port: 1, init: 2 };
+
+// The line of each command.
+const LINE: u32 = 7;
+
+/// An answer without what it hands back.
+#[derive(Clone, Copy, Debug, PartialEq, Eq)]
+pub(crate) enum Said {
+    Queued(u32),
+    Turned(u32),
+    NoRoom(u32),
+    Moved(u32),
+    Ended(u32, u32),
+    Blocked(u32),
+    Gone,
+    Nothing,
+    Idle,
+    Other,
+}
+
+pub(crate) fn plain(answer: Answer) -> Said {
+    match answer {
+        Answer::Queued(no) => Said::Queued(no.number()),
+        Answer::Turned(no) => Said::Turned(no.number()),
+        Answer::NoRoom(work) => Said::NoRoom(name(&work)),
+        Answer::Moved(no) => Said::Moved(no.number()),
+        Answer::Ended(no, line) => Said::Ended(no.number(), line),
+        Answer::Blocked(by) => Said::Blocked(by.number()),
+        Answer::Gone => Said::Gone,
+        Answer::Nothing => Said::Nothing,
+        Answer::Idle => Said::Idle,
+        _ => Said::Other,
+    }
+}
+
+// The tag of a command, or the line of a function, that was handed back.
+fn name(work: &Work<Cmd>) -> u32 {
+    match work {
+        Work::Cmd(cmd) => cmd.command().tag.0,
+        Work::Ask(ask) => ask.line,
+    }
+}
+
+/// A simple command comes.
+pub(crate) fn arrive<B: Backend>(
+    alloc: Global,
+    pair: &mut Pair<B>,
+    tag: u32,
+    cdb: &[u8],
+    out: &[u8],
+) -> Result<Said, Fail> {
+    let out = Bytes::from_vec(out.to_vec(alloc)?);
+    let cmd = Cmd::new(alloc, LINE, NEXUS, 1, Tag(tag), Attr2::Simple, cdb, out)?;
+    Ok(plain(pair.act(Act::Arrive(Node::A, Work::Cmd(cmd)))))
+}
+
+pub(crate) fn step<B: Backend>(pair: &mut Pair<B>, no: u32, blocks: u32) -> Said
+    requires { 1 ≤ blocks }
+{
+    plain(pair.act(Act::Step(CmdNo::new(no), blocks)))
+}
+
+pub(crate) fn next<B: Backend>(pair: &mut Pair<B>, blocks: u32) -> Said
+    requires { 1 ≤ blocks }
+{
+    plain(pair.act(Act::Next(blocks)))
+}
