@@ -1,62 +1,292 @@
 // The same job as a plain Rust program, as a yardstick of time: rustc -O bench/plain.rs
 use std::collections::HashSet;
 use std::fmt::Write as _;
-use std::io::{Read, Write};
+use std::io::Write as _;
+use std::ops::RangeInclusive;
+
+const BLOCK: usize = 512;
+
+enum Line {
+    Lun { blocks: u32 },
+    Port,
+    Map { initiator: u32 },
+    Command(Command),
+    Step { number: u32, blocks: u32 },
+    Drain,
+    Sync,
+}
 
 struct Command {
-    line: usize,
-    write: bool,
-    lba: u64,
-    count: u64,
+    initiator: u32,
+    tag: u32,
+    cdb: Vec<u8>,
     data: Vec<u8>,
 }
 
-fn digit(byte: u8) -> Option<u8> {
-    (byte as char).to_digit(16).map(|value| value as u8)
+#[derive(Default)]
+struct Script {
+    lines: Vec<Line>,
+    blocks: Option<u32>,
+    port: bool,
+    initiators: HashSet<u32>,
+    commands: usize,
+    acts: bool,
+}
+
+#[derive(Clone, Copy, PartialEq)]
+enum Kind {
+    Read,
+    Write,
+}
+
+/// What a command reads or writes.
+#[derive(Clone, Copy)]
+struct Transfer {
+    kind: Kind,
+    first: usize,
+    count: usize,
+}
+
+/// Why a command is refused, with its additional sense code.
+#[derive(Clone, Copy)]
+enum Refusal {
+    ShortData = 0x1a,
+    Operation = 0x20,
+    Range = 0x21,
+    Field = 0x24,
+}
+
+/// A command in the task set.
+struct Task {
+    number: u32,
+    command: Command,
+    transfer: Result<Transfer, Refusal>,
+    begun: bool,
+    done: usize,
+    got: Vec<u8>,
+}
+
+struct Unit {
+    disk: Vec<[u8; BLOCK]>,
+    arrived: u32,
+    tasks: Vec<Task>,
+    report: String,
+}
+
+fn number(word: &str, range: RangeInclusive<u32>) -> Option<u32> {
+    let is_plain = word == "0" || !word.starts_with(['0', '+']);
+    word.parse().ok().filter(|value| is_plain && range.contains(value))
 }
 
 fn push_pairs(bytes: &mut Vec<u8>, pairs: &[u8]) -> Option<()> {
     if pairs.is_empty() || pairs.len() % 2 != 0 {
         return None;
     }
+    let digit = |byte: u8| (byte as char).to_digit(16);
     for pair in pairs.chunks_exact(2) {
-        bytes.push(digit(pair[0])? * 16 + digit(pair[1])?);
+        bytes.push((digit(pair[0])? * 16 + digit(pair[1])?) as u8);
     }
     Some(())
 }
 
-fn byte_text(text: &str) -> Option<Vec<u8>> {
+fn byte_text(text: &str, most: u32) -> Option<Vec<u8>> {
     let mut bytes = Vec::new();
     for piece in text.split('.') {
         match piece.split_once('*') {
             None => push_pairs(&mut bytes, piece.as_bytes())?,
-            Some((pair, count)) => {
-                let mut one = Vec::new();
-                push_pairs(&mut one, pair.as_bytes())?;
-                let count: usize = count.parse().ok().filter(|count| *count > 0)?;
-                if one.len() != 1 {
-                    return None;
-                }
-                bytes.resize(bytes.len() + count, one[0]);
+            Some((pair, count)) if pair.len() == 2 => {
+                push_pairs(&mut bytes, pair.as_bytes())?;
+                let count = number(count, 1..=most)? as usize;
+                bytes.resize(bytes.len() - 1 + count, *bytes.last()?);
             }
+            Some(_) => return None,
+        }
+        if bytes.len() > most as usize {
+            return None;
         }
     }
     Some(bytes)
 }
 
-fn command(line: usize, words: &[&str], hosts: &HashSet<u8>) -> Option<Command> {
-    let init: u8 = words.get(1)?.parse().ok()?;
-    let cdb = byte_text(words.get(6)?)?;
-    let data = words.get(7).map_or(Some(Vec::new()), |text| byte_text(text))?;
-    if !hosts.contains(&init) || cdb.len() != 10 || cdb[0] != 0x28 && cdb[0] != 0x2a {
-        return None;
-    }
-    let lba = u32::from_be_bytes([cdb[2], cdb[3], cdb[4], cdb[5]]) as u64;
-    let count = u16::from_be_bytes([cdb[7], cdb[8]]) as u64;
-    Some(Command { line, write: cdb[0] == 0x2a, lba, count, data })
+fn parse_line(text: &str) -> Option<Line> {
+    let words: Vec<&str> = text.split(' ').collect();
+    Some(match words[..] {
+        ["lun", "0", "blocks", blocks] => Line::Lun { blocks: number(blocks, 1..=65_536)? },
+        ["port", "0", "a"] => Line::Port,
+        ["map", initiator, "0", "0", "0"] => Line::Map { initiator: number(initiator, 0..=15)? },
+        ["cmd", initiator, "0", "0", tag, "simple", cdb, ref data @ ..] if data.len() <= 1 => Line::Command(Command {
+            initiator: number(initiator, 0..=15)?,
+            tag: number(tag, 0..=u32::MAX)?,
+            cdb: byte_text(cdb, 32)?,
+            data: data.first().map_or(Some(Vec::new()), |text| byte_text(text, 131_072))?,
+        }),
+        ["step", "0", command, blocks] => {
+            Line::Step { number: number(command, 0..=u32::MAX)?, blocks: number(blocks, 1..=65_536)? }
+        }
+        ["drain", "0"] => Line::Drain,
+        ["sync"] => Line::Sync,
+        _ => return None,
+    })
 }
 
-fn push_text(text: &mut String, bytes: &[u8]) {
+impl Script {
+    /// Adds a line, and says whether it may stand behind those before it.
+    fn add(&mut self, line: Line) -> bool {
+        let sets_up = matches!(line, Line::Lun { .. } | Line::Port | Line::Map { .. });
+        let is_allowed = match &line {
+            _ if sets_up && self.acts => false,
+            Line::Lun { blocks } => self.blocks.replace(*blocks).is_none(),
+            Line::Port => !std::mem::replace(&mut self.port, true),
+            Line::Map { initiator } => self.port && self.blocks.is_some() && self.initiators.insert(*initiator),
+            Line::Command(command) => {
+                self.commands += 1;
+                self.initiators.contains(&command.initiator)
+            }
+            Line::Step { .. } | Line::Drain => self.blocks.is_some(),
+            Line::Sync => true,
+        };
+        self.acts |= !sets_up;
+        self.lines.push(line);
+        is_allowed && self.commands <= 64 && self.lines.len() <= 65_536
+    }
+}
+
+fn parse_script(text: &str) -> Option<Script> {
+    if text.len() > 8_388_608 || !text.is_empty() && !text.ends_with('\n') {
+        return None;
+    }
+    let mut script = Script::default();
+    let add = |line| parse_line(line).is_some_and(|line| script.add(line));
+    text.split_terminator('\n').all(add).then_some(script)
+}
+
+fn decode(cdb: &[u8]) -> Result<Transfer, Refusal> {
+    let kind = match cdb[0] {
+        0x28 => Kind::Read,
+        0x2a => Kind::Write,
+        _ => return Err(Refusal::Operation),
+    };
+    if cdb.len() != 10 {
+        return Err(Refusal::Field);
+    }
+    let first = u32::from_be_bytes([cdb[2], cdb[3], cdb[4], cdb[5]]) as usize;
+    let count = u16::from_be_bytes([cdb[7], cdb[8]]) as usize;
+    if cdb[1] >> 5 != 0 || count > 256 || cdb[9] & 4 != 0 {
+        return Err(Refusal::Field);
+    }
+    Ok(Transfer { kind, first, count })
+}
+
+fn check(command: &Command, blocks: usize) -> Result<Transfer, Refusal> {
+    let transfer = decode(&command.cdb)?;
+    if transfer.kind == Kind::Write && command.data.len() < BLOCK * transfer.count {
+        Err(Refusal::ShortData)
+    } else if transfer.first + transfer.count > blocks {
+        Err(Refusal::Range)
+    } else {
+        Ok(transfer)
+    }
+}
+
+impl Task {
+    /// Whether they have a block in common that one of them writes.
+    fn conflicts(&self, other: &Task) -> bool {
+        let (Ok(one), Ok(two)) = (self.transfer, other.transfer) else { return false };
+        let end = (one.first + one.count).min(two.first + two.count);
+        (one.kind == Kind::Write || two.kind == Kind::Write) && one.first.max(two.first) < end
+    }
+
+    /// Moves on by at most so many blocks, and says by how many.
+    fn move_on(&mut self, transfer: Transfer, disk: &mut [[u8; BLOCK]], most: usize) -> usize {
+        let count = most.min(transfer.count - self.done);
+        let first = transfer.first + self.done;
+        let bytes = disk[first..first + count].as_flattened_mut();
+        match transfer.kind {
+            Kind::Read => self.got.extend_from_slice(bytes),
+            Kind::Write => bytes.copy_from_slice(&self.command.data[BLOCK * self.done..][..BLOCK * count]),
+        }
+        self.done += count;
+        count
+    }
+}
+
+impl Unit {
+    fn arrive(&mut self, at: usize, command: Command) {
+        self.arrived += 1;
+        let number = self.arrived;
+        let nexus = (command.initiator, command.tag);
+        writeln!(self.report, "came {number} a {at}").unwrap();
+        if self.tasks.iter().any(|task| (task.command.initiator, task.command.tag) == nexus) {
+            writeln!(self.report, "turned {number} {}", check_condition(0x0b, 0x4e)).unwrap();
+        } else {
+            writeln!(self.report, "in {number}").unwrap();
+            let transfer = check(&command, self.disk.len());
+            self.tasks.push(Task { number, command, transfer, begun: false, done: 0, got: Vec::new() });
+        }
+    }
+
+    fn step(&mut self, number: u32, blocks: usize) {
+        let place = self.tasks.iter().position(|task| task.number == number);
+        if let Some(place) = place.filter(|place| self.tasks[*place].begun || self.is_ready(*place)) {
+            self.move_task(place, blocks);
+        }
+    }
+
+    fn drain(&mut self) {
+        while let Some(place) = self.next() {
+            self.move_task(place, 65_536);
+        }
+    }
+
+    /// The first task that is ready, or else the first that has begun.
+    fn next(&self) -> Option<usize> {
+        let ready = (0..self.tasks.len()).find(|place| self.is_ready(*place));
+        ready.or_else(|| self.tasks.iter().position(|task| task.begun))
+    }
+
+    fn is_ready(&self, place: usize) -> bool {
+        let task = &self.tasks[place];
+        !task.begun && !self.tasks[..place].iter().any(|earlier| earlier.conflicts(task))
+    }
+
+    fn move_task(&mut self, place: usize, blocks: usize) {
+        let task = &mut self.tasks[place];
+        let number = task.number;
+        match task.transfer {
+            Err(refusal) => writeln!(self.report, "ended {number} {}", check_condition(5, refusal as u8)).unwrap(),
+            Ok(transfer) => {
+                if !task.begun && transfer.count > 0 {
+                    writeln!(self.report, "begun {number}").unwrap();
+                }
+                task.begun = true;
+                let count = task.move_on(transfer, &mut self.disk, blocks);
+                if count > 0 {
+                    writeln!(self.report, "moved {number} {count}").unwrap();
+                }
+                if task.done < transfer.count {
+                    return;
+                }
+                push_good(&mut self.report, task);
+            }
+        }
+        self.tasks.remove(place);
+    }
+}
+
+fn check_condition(key: u8, code: u8) -> String {
+    format!("CHECK CONDITION sense 7000{key:02x}000000000a00000000{code:02x}0000000000")
+}
+
+fn push_good(text: &mut String, task: &Task) {
+    write!(text, "ended {} GOOD", task.number).unwrap();
+    if !task.got.is_empty() {
+        text.push_str(" data ");
+        push_bytes(text, &task.got);
+    }
+    text.push('\n');
+}
+
+fn push_bytes(text: &mut String, bytes: &[u8]) {
     let mut at = 0;
     while at < bytes.len() {
         let run = bytes[at..].iter().take_while(|byte| **byte == bytes[at]).count();
@@ -67,71 +297,45 @@ fn push_text(text: &mut String, bytes: &[u8]) {
         text.push(digits[(bytes[at] / 16) as usize] as char);
         text.push(digits[(bytes[at] % 16) as usize] as char);
         if run > 1 {
-            let _ = write!(text, "*{run}");
+            write!(text, "*{run}").unwrap();
         }
         at += run;
     }
 }
 
-fn main() {
-    let mut script = Vec::new();
-    std::io::stdin().read_to_end(&mut script).unwrap();
-    let Ok(script) = String::from_utf8(script) else { std::process::exit(3) };
-    let mut blocks = 0;
-    let mut hosts = HashSet::new();
-    let mut commands = Vec::new();
-    for (number, line) in script.lines().enumerate() {
-        let words: Vec<&str> = line.split(' ').collect();
-        match words[0] {
-            "lun" => blocks = words[3].parse().unwrap(),
-            "port" => {}
-            "map" => drop(hosts.insert(words[1].parse::<u8>().unwrap())),
-            "cmd" => match command(number + 1, &words, &hosts) {
-                Some(command) => commands.push(command),
-                None => std::process::exit(3),
-            },
-            _ => std::process::exit(3),
-        }
-    }
-    drop(script);
-    let mut disk: Vec<Box<[u8; 512]>> = (0..blocks).map(|_| Box::new([0; 512])).collect();
-    let mut text = String::from("report 1\nlun 0\n");
-    for (index, command) in commands.iter().enumerate() {
-        let number = index + 1;
-        let _ = write!(text, "came {number} a {}\nin {number}\n", command.line);
-    }
-    for (index, command) in commands.iter().enumerate() {
-        let number = index + 1;
-        if command.lba + command.count > disk.len() as u64 {
-            let _ = writeln!(text, "ended {number} CHECK CONDITION sense 700005000000000a00000000210000000000");
-            continue;
-        }
-        if command.count > 0 {
-            let _ = write!(text, "begun {number}\nmoved {number} {}\n", command.count);
-        }
-        let _ = write!(text, "ended {number} GOOD");
-        let range = command.lba as usize..(command.lba + command.count) as usize;
-        if command.write {
-            for (block, data) in disk[range].iter_mut().zip(command.data.chunks_exact(512)) {
-                block.copy_from_slice(data);
-            }
-        } else if command.count > 0 {
-            let data: Vec<u8> = disk[range].iter().flat_map(|block| block.iter().copied()).collect();
-            text.push_str(" data ");
-            push_text(&mut text, &data);
-        }
-        text.push('\n');
-    }
+fn push_disk(text: &mut String, disk: &[[u8; BLOCK]]) {
     let mut first = 0;
     while first < disk.len() {
         let run = disk[first..].iter().take_while(|block| **block == disk[first]).count();
         if disk[first].iter().any(|byte| *byte != 0) {
-            let _ = write!(text, "disk {first} {} ", first + run - 1);
-            push_text(&mut text, disk[first].as_slice());
+            write!(text, "disk {first} {} ", first + run - 1).unwrap();
+            push_bytes(text, &disk[first]);
             text.push('\n');
         }
         first += run;
     }
-    text.push_str("done\n");
-    std::io::stdout().write_all(text.as_bytes()).unwrap();
+}
+
+fn play(script: Script) -> String {
+    let Some(blocks) = script.blocks else { return String::from("report 1\ndone\n") };
+    let disk = vec![[0; BLOCK]; blocks as usize];
+    let mut unit = Unit { disk, arrived: 0, tasks: Vec::new(), report: String::from("report 1\nlun 0\n") };
+    for (index, line) in script.lines.into_iter().enumerate() {
+        match line {
+            Line::Lun { .. } | Line::Port | Line::Map { .. } => {}
+            Line::Command(command) => unit.arrive(index + 1, command),
+            Line::Step { number, blocks } => unit.step(number, blocks as usize),
+            Line::Drain | Line::Sync => unit.drain(),
+        }
+    }
+    unit.drain();
+    push_disk(&mut unit.report, &unit.disk);
+    unit.report.push_str("done\n");
+    unit.report
+}
+
+fn main() {
+    let script = std::io::read_to_string(std::io::stdin()).ok().and_then(|text| parse_script(&text));
+    let Some(script) = script else { std::process::exit(3) };
+    std::io::stdout().write_all(play(script).as_bytes()).unwrap();
 }
