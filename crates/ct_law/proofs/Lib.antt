@@ -24,6 +24,7 @@ pub mod Runs
 pub mod Walk
 pub mod Turns
 pub mod Comings
+pub mod Arrivals
 pub mod Complete
 pub mod Lawful
 pub mod Writes

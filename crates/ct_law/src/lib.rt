@@ -5,6 +5,7 @@
 
 mod liveness;
 mod safety;
+mod works;
 
 pub use liveness::{
     acts_write, idle_is_silent, next_does_something, runs_fit_their_room, runs_never_stop,
@@ -14,6 +15,7 @@ pub use safety::{
     runs_are_by_cells, runs_are_legal, runs_are_orderly, runs_are_sound, runs_are_timely,
     runs_record_prefixes,
 };
+pub use works::{arrivals_alone_take_room, works_are_kept};
 
 #[cfg(test)]
 mod tests {
@@ -36,5 +38,7 @@ mod tests {
         idle_is_silent();
         next_does_something();
         runs_fit_their_room();
+        arrivals_alone_take_room();
+        works_are_kept();
     }
 }

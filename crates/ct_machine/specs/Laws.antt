@@ -1,6 +1,7 @@
 -- What the journal of a logical unit owes, whatever the schedule.
-use Rattle.std.specs.Prelude.{◌≡◌, ◌≢◌, ℕ, ◌+◌, ◌*◌, ◌≤◌, List, [], ◌∷◌, ◌++◌, length, take, drop, Bool, true, false, not, ◌&&◌, ◌||◌, ◌==◌, if◌then◌else◌, Option, None, Some, is_some, slice_get}
+use Rattle.std.specs.Prelude.{◌≡◌, ◌≢◌, ℕ, ◌+◌, ◌-◌, ◌*◌, ◌≤◌, List, [], ◌∷◌, ◌++◌, length, take, drop, Bool, true, false, not, ◌&&◌, ◌||◌, ◌==◌, if◌then◌else◌, Option, None, Some, is_some, slice_get, fold}
 use Rattle.std.specs.List.{list_any, filter}
+use Rattle.ct_word.specs.declared.names.Room.{Room}
 use Rattle.ct_word.specs.Nexuses.{contains}
 use Rattle.ct_tmf.specs.declared.function.Ask.{Ask}
 use Rattle.ct_tmf.specs.Reaches.{hits}
@@ -25,7 +26,8 @@ use Rattle.ct_machine.specs.declared.act.Answer.{Answer}
 use Rattle.ct_machine.specs.declared.act.Answer.TheVariants as answer
 use Rattle.ct_machine.specs.declared.act.Opening.{Opening}
 use Rattle.ct_machine.specs.States.{Task, State, task_of, held_by}
-use Rattle.ct_machine.specs.Acts.{act_of, turned_cause, is_sent, numbers_of}
+use Rattle.ct_machine.specs.Events.{works_of}
+use Rattle.ct_machine.specs.Acts.{act_of, turned_cause, is_sent, numbers_of, has_room_for}
 use Rattle.ct_machine.specs.Runs.{replay, IsAllowed}
 use Rattle.ct_machine.specs.Serial.{serial_disk}
 
@@ -353,6 +355,22 @@ abbrev pub ActsWrite : Opening → List Logged → Type 0
 ActsWrite o journal =
     (done : Act) (fault : Option ℕ) → IsAllowed o done → is_void (act_of (replay o journal) done fault).answer ≡ false →
     (act_of (replay o journal) done fault).journal ≢ []
+
+-- the works that an act brings: that of an arrival for which there is room
+abbrev pub brought : State → Act → List KeptWork
+brought s (act.Arrive node came) = if has_room_for came s then came ∷ [] else []
+brought s _ = []
+
+-- what a work leaves of a room: a command also takes the block operations of its plan
+abbrev pub room_without : ℕ → Room → KeptWork → Room
+room_without blocks room (work.Cmd command) = record room { commands = room.commands - 1; pieces = room.pieces - length (plan_in blocks command) }
+room_without blocks room (work.Ask ask) = record room { functions = room.functions - 1 }
+
+-- works come by arrivals alone, and take their room
+pub record Brings (before after : State) (done : Act) : Type 0 where
+  pub works : works_of after ≡ works_of before ++ brought before done
+  pub room : after.room ≡ fold (room_without (length before.blocks)) before.room (brought before done)
+  pub size : length after.blocks ≡ length before.blocks
 
 -- the events that the room of an opening reserves
 abbrev pub reserved_events : Opening → ℕ

@@ -1,8 +1,11 @@
 -- What the lines of a script bring to the logical unit that they declare, and with what it is opened.
-use Rattle.std.specs.Prelude.{ℕ, List, [], ◌∷◌, length, sum_by, count_by, Option, Some, None}
+use Rattle.std.specs.Prelude.{ℕ, List, [], ◌∷◌, length, sum_by, count_by, Option, Some, None, option_map}
+use Rattle.std.specs.List.{filter_map}
 use Rattle.ct_word.specs.declared.names.Ha.TheVariants as ha
 use Rattle.ct_word.specs.declared.names.Room.{Room}
 use Rattle.ct_book.specs.declared.work.Command.{Command}
+use Rattle.ct_book.specs.declared.work.Work.TheVariants as work
+use Rattle.ct_book.specs.Journals.{KeptWork}
 use Rattle.ct_exec.specs.Executions.{plan_in}
 use Rattle.ct_machine.specs.declared.act.Opening.{Opening}
 use Rattle.ct_script.specs.declared.script.Line.{Line}
@@ -14,6 +17,10 @@ use Rattle.ct_script.specs.Rules.{is_command}
 abbrev pub command_in : ℕ → Word → Option Command
 command_in line (Cmd n x tag attr cdb out) = Some (record { line = line; nexus = n; visible = 1; tag = tag; attr = attr; cdb = cdb; out = out })
 command_in line _ = None
+
+-- the commands of lines, in order
+abbrev pub commands_of : List Line → List KeptWork
+commands_of lines = filter_map (λ (line : Line). option_map work.Cmd (command_in line.no line.word)) lines
 
 -- how many block operations it plans on a disk of so many blocks
 abbrev pub pieces_by : ℕ → Option Command → ℕ

@@ -3,6 +3,7 @@ use Rattle.std.specs.Prelude.{◌≡◌, ℕ, ◌<◌, ◌≤◌, List, [], ◌�
 use Rattle.std.specs.Io.KnownBytes.{Appends}
 use Rattle.ct_io.specs.Causes.{Rose}
 use Rattle.ct_io.specs.Streams.{GivesAll}
+use Rattle.ct_book.specs.Journals.{works_in}
 use Rattle.ct_machine.specs.Runs.{replay, IsRun}
 use Rattle.ct_machine.specs.Laws.{IsLegal, IsLawful}
 use Rattle.ct_script.specs.declared.script.Line.{Line}
@@ -11,7 +12,7 @@ use Rattle.ct_script.specs.Scripts.{script_of}
 use Rattle.ct_top.specs.declared.command.Command.{Command}
 use Rattle.ct_top.specs.declared.command.Command.TheVariants.{Play}
 use Rattle.ct_top.specs.declared.report.UnitEnd.{UnitEnd}
-use Rattle.ct_top.specs.Commands.{declared_blocks, opening_of}
+use Rattle.ct_top.specs.Commands.{commands_of, declared_blocks, opening_of}
 use Rattle.ct_top.specs.Played.{IsPlayed}
 use Rattle.ct_top.specs.Report.{report_text}
 
@@ -36,13 +37,15 @@ abbrev pub NoFault : Option ℕ → Type 0
 NoFault fault = fault ≡ None
 
 -- a unit with so many blocks was played: its journal is what the machine writes for the acts of the lines, a run, lawful and
--- legal, with nothing live at its end; its disk has the blocks to which the journal leads
+-- legal, to which each command of the lines came in order, with nothing live at its end; its disk has the blocks to which the
+-- journal leads
 pub record IsEnd (blocks : ℕ) (lines : List Line) (end : UnitEnd) : Type 0 where
   pub lun : end.lun ≡ record { 0 = 0 }
   pub played : IsPlayed (opening_of blocks lines) NoFault lines end.book.journal
   pub run : IsRun (opening_of blocks lines) end.book.journal
   pub lawful : IsLawful (opening_of blocks lines) end.book.journal
   pub legal : IsLegal (opening_of blocks lines) end.book.journal
+  pub arrived : works_in end.book.journal ≡ commands_of lines
   pub rest : (replay (opening_of blocks lines) end.book.journal).tasks ≡ []
   pub disk : end.disk ≡ (replay (opening_of blocks lines) end.book.journal).blocks
 

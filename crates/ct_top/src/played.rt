@@ -1,14 +1,18 @@
 //! What `play` does with one logical unit.
 
 ghost use Rattle.std.specs.Prelude.{◌≡◌, ◌≤◌, ◌<◌, [], length, replicate, IfOk, OnOk};
+ghost use Rattle.ct_book.specs.Journals.{works_in};
 ghost use Rattle.ct_machine.specs.Runs.{replay, IsRun};
 ghost use Rattle.ct_script.specs.Rules.{IsWithin, IsInRange, line_asked};
-ghost use Rattle.ct_top.specs.Commands.{pieces_in, room_of, opening_of};
+ghost use Rattle.ct_top.specs.Commands.{commands_of, pieces_in, room_of, opening_of};
 ghost use Rattle.ct_top.specs.Played.{MayFail, Drains, ByLine, ByLines, IsPlayed};
 
 use ct_book::{Cmd, Work};
 use ct_cdb::decode;
-use ct_law::{acts_write, idle_is_silent, next_does_something, runs_fit_their_room};
+use ct_law::{
+    acts_write, arrivals_alone_take_room, idle_is_silent, next_does_something, runs_fit_their_room,
+    works_are_kept,
+};
 use ct_medium::Backend;
 use ct_pair::{Act, Answer, End, Pair};
 use ct_plan::Plan;
@@ -38,8 +42,11 @@ pub fn play_on<B: Backend>(alloc: Global, script: Script, medium: B) -> Result<E
     ensures lun { IfOk result (λ end. end.lun ≡ record { 0 = 0 }) }
     ensures played { IfOk result (λ end. IsPlayed (opening_of (length (B.blocks medium)) script) (MayFail 0 (B.faults end.medium)) script end.book.journal) }
     ensures run { IfOk result (λ end. IsRun (opening_of (length (B.blocks medium)) script) end.book.journal) }
+    ensures arrived { IfOk result (λ end. works_in end.book.journal ≡ commands_of script) }
     ensures disk { IfOk result (λ end. B.blocks end.medium ≡ (replay (opening_of (length (B.blocks medium)) script) end.book.journal).blocks) }
 {
+    arrivals_alone_take_room();
+    works_are_kept();
     script.is_within();
     let room = room_of(script.lines(), medium.len());
     let mut pair = Pair::open(alloc, Ha::None, LunNo(0), DEPTH, POOL, room, medium)?;

@@ -1,6 +1,6 @@
 //! The top call.
 
-ghost use Rattle.std.specs.Prelude.{◌≡◌, ◌≢◌, ◌<◌, ◌≤◌, ◌↔◌, ◌⊎◌, None, length, take, map, string_bytes, IfOk, IfErr, IfSome, Ok, Err};
+ghost use Rattle.std.specs.Prelude.{◌≡◌, ◌≢◌, ◌<◌, ◌≤◌, ◌↔◌, ◌⊎◌, [], None, length, take, map, string_bytes, IfOk, IfErr, IfSome, Ok, Err};
 ghost use Rattle.std.specs.Io.KnownBytes.{Appends};
 ghost use Rattle.ct_io.specs.Causes.{Rose};
 ghost use Rattle.ct_io.specs.Streams.{IsLongerThan};
@@ -88,7 +88,7 @@ pub fn target_one<S: Source, K: Sink>(
     ensures write { result.exit ≡ Exit.Write →
         IsCutShort (S.left source.old) (S.left source.new) (K.held sink.old) (K.held sink.new) result.sent result.ends.items }
     ensures write_fault { result.exit ≡ Exit.Write → Rose (K.faults sink.old) (K.faults sink.new) }
-    ensures unwritten { IsWritten result.exit ⊎ ((sink.new ≡ sink.old) × (result.sent ≡ 0)) }
+    ensures unwritten { IsWritten result.exit ⊎ ((sink.new ≡ sink.old) × (result.sent ≡ 0) × (result.ends.items ≡ [])) }
 
     // Want of memory is the one free answer.
     ensures complete { IsPlayable (map string_bytes words.now.items) (S.left source.old)
@@ -104,6 +104,7 @@ pub fn target_one<S: Source, K: Sink>(
 fn unwritten(alloc: Global, exit: Exit) -> Served
     ensures exit { result.exit ≡ exit }
     ensures sent { result.sent ≡ 0 }
+    ensures ends { result.ends.items ≡ [] }
 {
     Served {
         exit,
@@ -122,7 +123,7 @@ fn play<S: Source, K: Sink>(alloc: Global, source: &mut S, sink: &mut K) -> Serv
     ensures write { result.exit ≡ Exit.Write →
         IsCutShort (S.left source.old) (S.left source.new) (K.held sink.old) (K.held sink.new) result.sent result.ends.items }
     ensures write_fault { result.exit ≡ Exit.Write → Rose (K.faults sink.old) (K.faults sink.new) }
-    ensures unwritten { IsWritten result.exit ⊎ ((sink.new ≡ sink.old) × (result.sent ≡ 0)) }
+    ensures unwritten { IsWritten result.exit ⊎ ((sink.new ≡ sink.old) × (result.sent ≡ 0) × (result.ends.items ≡ [])) }
 {
     match read_script(alloc, source) {
         Ok(script) => match play_script(alloc, script) {
@@ -180,7 +181,7 @@ fn report_ends<K: Sink>(alloc: Global, ends: Vec<UnitEnd>, sink: &mut K) -> Serv
     ensures write { result.exit ≡ Exit.Write → Appends (K.held sink.old) (K.held sink.new) (take result.sent (report_text ends.items)) × (result.sent < length (report_text ends.items)) × (result.ends.items ≡ ends.items) }
     ensures write_fault { result.exit ≡ Exit.Write → Rose (K.faults sink.old) (K.faults sink.new) }
     ensures exits { IsWritten result.exit ⊎ (result.exit ≡ Exit.Memory) }
-    ensures unwritten { IsWritten result.exit ⊎ ((sink.new ≡ sink.old) × (result.sent ≡ 0)) }
+    ensures unwritten { IsWritten result.exit ⊎ ((sink.new ≡ sink.old) × (result.sent ≡ 0) × (result.ends.items ≡ [])) }
 {
     match text(alloc, ends.as_slice()) {
         Ok(text) => write_text(sink, text.as_slice(), ends),

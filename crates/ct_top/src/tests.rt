@@ -394,6 +394,54 @@ fn tells_the_first_fault_of_limit(rt: HostRuntime) -> Result<(), Fail> {
     assert_eq!(rt; judge(alloc, script.as_slice())?, Exit::Done);
     script.extend_from_slice(b"cmd 1 0 0 64 simple 28000000000000000000\n")?;
     assert_eq!(rt; judge(alloc, script.as_slice())?, fault(69, What::Limit));
+    let mut script = Vec::new(alloc);
+    for _ in 0..65_536 {
+        script.extend_from_slice(b"sync\n")?;
+    }
+    assert_eq!(rt; judge(alloc, script.as_slice())?, Exit::Done);
+    script.extend_from_slice(b"sync\n")?;
+    assert_eq!(rt;
+        judge(alloc, script.as_slice())?,
+        fault(65_537, What::Limit)
+    );
+    Ok(())
+}
+
+#[test]
+fn judges_the_length_of_data(rt: HostRuntime) -> Result<(), Fail> {
+    let alloc = rt.alloc();
+    let cases = [
+        // the most DATA, of which the first block is asked for
+        ("1", "5a*131072", Exit::Done),
+        ("1", "5a*131071.5b", Exit::Done),
+        ("1", "5a*131073", fault(5, What::Limit)),
+        ("1", "5a*131072.5b", fault(5, What::Limit)),
+        ("1", "5a5a.5a*131071", fault(5, What::Limit)),
+        (
+            "1",
+            "5a*99999999999999999999999999.5b*9",
+            fault(5, What::Limit),
+        ),
+        // form and name are told before the limit
+        ("1", "5a*131073.5", fault(5, What::Form)),
+        ("1", "5a*131073.5a*0", fault(5, What::Form)),
+        ("1", "5a*131073 5a", fault(5, What::Form)),
+        ("2", "5a*131073", fault(5, What::Name)),
+    ];
+    for (init, data, exit) in cases {
+        let script = format!(in alloc;
+            "{HEAD}cmd {init} 0 0 1 simple 2a000000000000000100 {data}\n"
+        )?;
+        assert_eq!(rt; judge(alloc, script.as_bytes())?, exit, "at {data}");
+    }
+    // in pairs of digits
+    let mut script = Vec::from_slice(alloc, HEAD.as_bytes())?;
+    script.extend_from_slice(b"cmd 1 0 0 1 simple 2a000000000000000100 ")?;
+    for _ in 0..131_073 {
+        script.extend_from_slice(b"5a")?;
+    }
+    script.extend_from_slice(b"\n")?;
+    assert_eq!(rt; judge(alloc, script.as_slice())?, fault(5, What::Limit));
     Ok(())
 }
 

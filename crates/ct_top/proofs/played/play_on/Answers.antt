@@ -1,4 +1,4 @@
-use Rattle.std.proofs.Common.{◌≡◌, ◌<◌, [], List, length, sym, ap, ◌∙◌, subst}
+use Rattle.std.proofs.Common.{rules, ◌≡◌, ◌<◌, [], List, length, sym, ap, ◌∙◌, subst}
 use Rattle.ct_word.specs.declared.names.Room.{Room}
 use Rattle.ct_book.specs.declared.event.Logged.{Logged}
 use Rattle.ct_book.specs.Journals.{BookState}
@@ -10,6 +10,7 @@ use Rattle.ct_top.specs.Commands.{room_of, opening_of}
 use Rattle.ct_top.specs.Played.{MayFail, Drains, ByLines, IsPlayed}
 use Rattle.ct_top.proofs.Ranges.{few_events}
 use Rattle.ct_top.proofs.Draining.{played_whole}
+use Rattle.ct_top.proofs.Arriving.{all_come}
 use Rattle.ct_top.proofs.played.play_on.Goals as goal
 
 pub open-requires-clause-events : goal.open-requires-clause-events
@@ -37,3 +38,9 @@ returns-clause-played g c =
     played_whole (opening_of blocks script) script second.book.journal third.book.journal first.desk.faults second.desk.faults third.desk.faults lines drained c.drain.ensures.later in
     subst (λ f. IsPlayed (opening_of blocks script) (MayFail 0 f) script c.close.result.book.journal) (sym c.close.ensures.faults)
     (subst (λ (book : BookState). IsPlayed (opening_of blocks script) (MayFail 0 third.desk.faults) script book.journal) (sym c.close.ensures.book) whole)
+
+pub returns-clause-arrived : goal.returns-clause-arrived
+returns-clause-arrived g c =
+    let n = length (g.B.Backend.blocks c.args.medium) in
+    all_come (λ o journal done fault. c.arrivals_alone_take_room.ensures o journal done fault) (λ o journal run. c.works_are_kept.ensures o journal run)
+    (MayFail 0 (g.B.Backend.faults c.close.result.medium)) n c.args.script c.close.result.book.journal (returns-clause-played g c) (search rules)

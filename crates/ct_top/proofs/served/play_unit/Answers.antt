@@ -24,6 +24,7 @@ returns c =
       run = run;
       lawful = c.every_run_is_lawful.ensures opening journal run;
       legal = c.runs_are_legal.ensures opening journal run (restricted opening journal);
+      arrived = c.in_ok-lun.ensures.arrived;
       rest = at_rest opening NoFault played.last journal played.drained (c.runs_never_stop.ensures opening journal run);
       disk = subst (λ n. end.medium ≡ (replay (opening_of n script) journal).blocks) size c.in_ok-lun.ensures.disk;
     }
