@@ -4,7 +4,9 @@ use Rattle.std.proofs.lemmas.Bool.Decides.{nat_tests}
 use Rattle.ct_script.specs.Cuts.{parts_of_rest}
 use Rattle.std.specs.List.{slice_split, position_or_len}
 use Rattle.std.proofs.lemmas.List.Splits.{slice_split_first, slice_split_none, length-slice_split}
-use Rattle.std.proofs.lemmas.List.Sums.{fails_before_first, prefix_len-le-length}
+use Rattle.std.specs.Prelude.{slice_index, nat_lt}
+use Rattle.memchr.specs.Find.{IsFirstByte}
+use Rattle.std.proofs.lemmas.List.Sums.{fails_before_first, position_or_len_is, prefix_len-le-length}
 use Rattle.std.proofs.lemmas.List.Elements.{All-from_get_or}
 use Rattle.std.proofs.lemmas.List.{take_rest}
 use Rattle.std.proofs.lemmas.Bool.{ltb-true, ltb-false}
@@ -29,6 +31,22 @@ pub split_nowhere : (p : ℕ → Bool) (xs : List ℕ) → position p xs ≡ Non
 split_nowhere p xs h =
     let past : length xs ≤ position_or_len p xs = ltb-false _ _ (none_at _ (position_or_len p xs) h) in
     slice_split_none p xs (All-from_get_or (λ x. p x ≡ false) xs 0 (λ i (in_xs : i < length xs). fails_before_first p xs i 0 (omega arith)))
+
+is_false : (t : Bool) → ¬ (t ≡ true) → t ≡ false
+is_false true h = absurd (h refl)
+is_false false h = refl
+
+-- the first place where a byte stands, as a search tells it
+pub found_first : (p : ℕ → Bool) (xs : List ℕ) (found : Option ℕ) → IsFirstByte p xs found → found ≡ position p xs
+found_first p xs None nowhere =
+    let past : position_or_len p xs ≡ length xs = position_or_len_is p xs (length xs) 0 (omega arith) (λ k low. is_false (p (slice_index xs k)) (nowhere k (omega arith) low)) (λ low. absurd (omega (arith, low))) in
+    let none : nat_lt (position_or_len p xs) (length xs) ≡ false = grind (arith, nat_tests) in
+    sym (ap (λ t. cond t (Some (position_or_len p xs)) None) none)
+found_first p xs (Some place) first =
+    let is : position_or_len p xs ≡ place = position_or_len_is p xs place 0 (let high = first.0.high in omega (arith, high)) (λ k low. is_false (p (slice_index xs k)) (first.0.before k (omega arith) low)) (λ low. first.1) in
+    let within = first.0.high in
+    let some : nat_lt (position_or_len p xs) (length xs) ≡ true = grind (arith, nat_tests) in
+    ap Some (sym is) ∙ sym (ap (λ t. cond t (Some (position_or_len p xs)) None) some)
 
 pub place_first : {X : Type 0} (p : X → Bool) (xs : List X) (n : ℕ) → position p xs ≡ Some n → n ≡ position_or_len p xs
 place_first p xs n h = sym (some_at _ _ _ h).1

@@ -4,6 +4,8 @@ ghost use Rattle.std.specs.Prelude.{◌≡◌, ◌==◌, ◌∷◌, ◌<◌, len
 ghost use Rattle.std.specs.List.{slice_split};
 ghost use Rattle.ct_script.specs.Cuts.{parts_of_rest};
 
+use memchr::memchr;
+
 /// The bytes before the first `at`, and those behind it where there is one.
 pub fn cut(bytes: &[u8], at: u8) -> (&[u8], Option<&[u8]>)
     ensures parts { slice_split (λ b. b == at) bytes.now ≡ result.0.now ∷ parts_of_rest at result.1 }
@@ -19,5 +21,5 @@ fn first_place(bytes: &[u8], at: u8) -> Option<usize>
     ensures place { result ≡ position (λ b. b == at) bytes.now }
     ensures within { IfSome result (λ place. place < length bytes.now) }
 {
-    bytes.iter().position(|b| *b == at)
+    memchr(at, bytes)
 }
