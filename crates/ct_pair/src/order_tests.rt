@@ -22,7 +22,7 @@ const READ_10: u8 = 0x28;
 
 const WRITE_10: u8 = 0x2a;
 
-// READ (10), or WRITE (10) of blocks of one byte.
+// READ (10), or WRITE (10) whose first block is of a byte, and each further block of the next byte.
 #[derive(Clone, Copy)]
 struct Access {
     first: u8,
@@ -56,10 +56,13 @@ impl Access {
     }
 
     fn data_out(&self, alloc: Global) -> Result<Vec<u8>, AllocError> {
-        match self.written {
-            Some(byte) => vec![in alloc; byte; BLOCK_SIZE * self.count as usize],
-            None => Ok(Vec::new(alloc)),
+        let mut out = Vec::new(alloc);
+        if let Some(byte) = self.written {
+            for place in 0..self.count {
+                out.extend_from_slice(&[byte.wrapping_add(place); BLOCK_SIZE])?;
+            }
         }
+        Ok(out)
     }
 
     fn blocks(&self) -> Range<usize> {
@@ -124,11 +127,20 @@ fn are_blocks(body: &[u8], bytes: &[u8]) -> bool {
     blocks.next().is_none()
 }
 
+// Puts a byte into the first block, and into each further block the next byte.
+fn put_from(blocks: &mut [u8], first: u8) {
+    let mut byte = first;
+    for block in blocks {
+        *block = byte;
+        byte = byte.wrapping_add(1);
+    }
+}
+
 // Does a command whole on a disk of one byte a block, and tells whether these are its data.
 fn run_whole(disk: &mut [u8], command: &Access, body: &[u8]) -> bool {
     match (disk.get_mut(command.blocks()), command.written) {
         (Some(blocks), Some(byte)) => {
-            blocks.fill(byte);
+            put_from(blocks, byte);
             body.is_empty()
         }
         (Some(blocks), None) => are_blocks(body, blocks),
@@ -334,12 +346,12 @@ const QUEUE_ROOM: Room = Room {
     pieces: 2 * DEPTH + 1,
 };
 
-// A write of two blocks, with a byte of its own.
+// A write of two blocks, with bytes of its own.
 fn write_two(first: usize) -> Access
-    requires { first < 255 }
+    requires { first < 127 }
 {
     let first = first as u8;
-    write(first, 2, first + 1)
+    write(first, 2, 2 * first + 1)
 }
 
 // A chain: each conflicts with the one before it.
