@@ -5,6 +5,7 @@ use Rattle.ct_io.specs.Causes.{Rose}
 use Rattle.ct_io.specs.Streams.{GivesAll}
 use Rattle.ct_book.specs.Journals.{works_in}
 use Rattle.ct_machine.specs.Runs.{replay, IsRun}
+use Rattle.ct_machine.specs.Serial.{serial_disk}
 use Rattle.ct_machine.specs.Laws.{IsLegal, IsLawful}
 use Rattle.ct_script.specs.declared.script.Line.{Line}
 use Rattle.ct_script.specs.declared.script.ScriptFault.{ScriptFault}
@@ -38,7 +39,7 @@ NoFault fault = fault ≡ None
 
 -- a unit with so many blocks was played: its journal is what the machine writes for the acts of the lines, a run, lawful and
 -- legal, to which each command of the lines came in order, with nothing live at its end; its disk has the blocks to which the
--- journal leads
+-- journal leads, and these are the blocks behind its commands executed one at a time, in the order in which they ended
 pub record IsEnd (blocks : ℕ) (lines : List Line) (end : UnitEnd) : Type 0 where
   pub lun : end.lun ≡ record { 0 = 0 }
   pub played : IsPlayed (opening_of blocks lines) NoFault lines end.book.journal
@@ -48,6 +49,7 @@ pub record IsEnd (blocks : ℕ) (lines : List Line) (end : UnitEnd) : Type 0 whe
   pub arrived : works_in end.book.journal ≡ commands_of lines
   pub rest : (replay (opening_of blocks lines) end.book.journal).tasks ≡ []
   pub disk : end.disk ≡ (replay (opening_of blocks lines) end.book.journal).blocks
+  pub serial : end.disk ≡ (serial_disk (opening_of blocks lines) end.book.journal).blocks
 
 -- one end for the unit that is declared, and none where none is
 abbrev pub AreEndsOf : Option ℕ → List Line → List UnitEnd → Type 0

@@ -18,6 +18,8 @@ returns c =
     let run : IsRun opening journal = subst (λ n. IsRun (opening_of n script) journal) size c.in_ok-lun.ensures.run in
     let played : IsPlayed opening NoFault script journal =
     played_wider opening (MayFail 0 0) NoFault script journal no_fault (subst (λ n. IsPlayed (opening_of n script) (MayFail 0 0) script journal) size c.in_ok-lun.ensures.played) in
+    let rest = at_rest opening NoFault played.last journal played.drained (c.runs_never_stop.ensures opening journal run) in
+    let disk : end.medium ≡ (replay opening journal).blocks = subst (λ n. end.medium ≡ (replay (opening_of n script) journal).blocks) size c.in_ok-lun.ensures.disk in
     record {
       lun = c.in_ok-lun.ensures.lun;
       played = played;
@@ -25,6 +27,7 @@ returns c =
       lawful = c.every_run_is_lawful.ensures opening journal run;
       legal = c.runs_are_legal.ensures opening journal run (restricted opening journal);
       arrived = c.in_ok-lun.ensures.arrived;
-      rest = at_rest opening NoFault played.last journal played.drained (c.runs_never_stop.ensures opening journal run);
-      disk = subst (λ n. end.medium ≡ (replay (opening_of n script) journal).blocks) size c.in_ok-lun.ensures.disk;
+      rest = rest;
+      disk = disk;
+      serial = disk ∙ c.blocks_are_serial_at_rest.ensures opening journal run (restricted opening journal) rest;
     }
