@@ -1,6 +1,7 @@
 -- Works come by arrivals alone, and take their room.
 use Rattle.std.proofs.Common.{◌≡◌, ℕ, Bool, true, false, List, [], ◌∷◌, ◌++◌, Option, Some, None, length, map, take, drop, refl, sym, ap, ◌∙◌, subst, cond, append-nil}
 use Rattle.std.specs.Prelude.{fold}
+use Rattle.std.proofs.lemmas.List.{map-append}
 use Rattle.ct_word.specs.declared.names.Node.{Node}
 use Rattle.ct_word.specs.declared.names.Node.TheVariants.{A, B}
 use Rattle.ct_sense.specs.declared.reply.Reply.{Reply}
@@ -268,16 +269,12 @@ pub record Came (before after : State) (w : KeptWork) : Type 0 where
 came_then : (s t u : State) (w : KeptWork) → Came s t w → Still t u → Came s u w
 came_then s t u w h k = record { works = ap (λ xs. map (λ (x : Arrival). x.work) xs) k.arrivals ∙ h.works; room = k.room ∙ h.room; size = k.size ∙ h.size }
 
-works_more : (arrivals : List Arrival) (a : Arrival) → map (λ (a : Arrival). a.work) (arrivals ++ a ∷ []) ≡ map (λ (a : Arrival). a.work) arrivals ++ a.work ∷ []
-works_more [] a = refl
-works_more (x ∷ xs) a = ap (λ l. x.work ∷ l) (works_more xs a)
-
 came_first : (number : ℕ) (node : Node) (w : KeptWork) (s : State) → Came s (writes (arrived number node w) s).state w
 unfolding after
-came_first number A (work.Cmd command) s = record { works = works_more s.arrivals (record { node = A; work = work.Cmd command }); room = refl; size = refl }
-came_first number A (work.Ask ask) s = record { works = works_more s.arrivals (record { node = A; work = work.Ask ask }); room = refl; size = refl }
-came_first number B (work.Cmd command) s = record { works = works_more s.arrivals (record { node = B; work = work.Cmd command }); room = refl; size = refl }
-came_first number B (work.Ask ask) s = record { works = works_more s.arrivals (record { node = B; work = work.Ask ask }); room = refl; size = refl }
+came_first number A (work.Cmd command) s = record { works = map-append (λ (x : Arrival). x.work) s.arrivals (record { node = A; work = work.Cmd command } ∷ []); room = refl; size = refl }
+came_first number A (work.Ask ask) s = record { works = map-append (λ (x : Arrival). x.work) s.arrivals (record { node = A; work = work.Ask ask } ∷ []); room = refl; size = refl }
+came_first number B (work.Cmd command) s = record { works = map-append (λ (x : Arrival). x.work) s.arrivals (record { node = B; work = work.Cmd command } ∷ []); room = refl; size = refl }
+came_first number B (work.Ask ask) s = record { works = map-append (λ (x : Arrival). x.work) s.arrivals (record { node = B; work = work.Ask ask } ∷ []); room = refl; size = refl }
 
 came_at : (node : Node) (w : KeptWork) (number : ℕ) (s : State) → Came s (arriving_at node w number s).turn.state w
 came_at A (work.Cmd command) number s =

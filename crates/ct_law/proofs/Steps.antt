@@ -1,6 +1,7 @@
 -- Events that leave the stages of the task set, messages, and commands that come, enter, or are over.
-use Rattle.std.proofs.Common.{◌≡◌, ℕ, ◌+◌, inl, inr, Bool, true, false, ◌||◌, List, [], ◌∷◌, ◌++◌, Some, length, map, refl, sym, ap, ◌∙◌, subst, ⊎_elim, arith}
+use Rattle.std.proofs.Common.{◌≡◌, ℕ, ◌+◌, inl, inr, Bool, true, false, ◌||◌, List, [], ◌∷◌, ◌++◌, Some, length, refl, sym, ap, ◌∙◌, subst, ⊎_elim, arith}
 use Rattle.std.proofs.lemmas.Bool.{both_ways}
+use Rattle.std.proofs.lemmas.List.{map-append}
 use Rattle.ct_word.specs.declared.names.Node.{Node}
 use Rattle.ct_word.specs.declared.names.Room.{Room}
 use Rattle.ct_book.specs.declared.work.Command.{Command}
@@ -71,7 +72,7 @@ pub came_so : (P : ℕ → ℕ → Type 0) (o : Opening) (s : State) (journal : 
 came_so P o s journal n node w room to_a next h comes = record {
   frame = record {
     each = each_more (LawfulAt o) [] journal e h.frame.each (record { once = λ m k. absurd (cc); orderly = tt; prefix = tt; cells = tt; sound = tt; legal = λ r. tt; by = tt });
-    works = works_more s.arrivals ∙ ap (λ ws. ws ++ w ∷ []) h.frame.works ∙ sym (works_in-more journal e (Some w) refl);
+    works = map-append (λ (a : Arrival). a.work) s.arrivals (arrival ∷ []) ∙ ap (λ ws. ws ++ w ∷ []) h.frame.works ∙ sym (works_in-more journal e (Some w) refl);
     size = h.frame.size;
     books = comes.books;
     orders = orders_event journal s.tasks e (λ m. refl) h.frame.orders;
@@ -89,10 +90,6 @@ came_so P o s journal n node w room to_a next h comes = record {
 
     arrival : Arrival
     arrival = record { node = node; work = w }
-
-    works_more : (xs : List Arrival) → map (λ (a : Arrival). a.work) (xs ++ arrival ∷ []) ≡ map (λ (a : Arrival). a.work) xs ++ w ∷ []
-    works_more [] = refl
-    works_more (x ∷ xs) = ap (λ l. x.work ∷ l) (works_more xs)
 
 -- a command enters
 pub enter_so : (P : ℕ → ℕ → Type 0) (o : Opening) (s : State) (journal : List Logged) (n : ℕ) (node : Node) (c : Command) → Inv P o s journal → Untouched n journal → (IsAsk n s.to_a → ⊥) →

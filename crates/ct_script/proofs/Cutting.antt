@@ -1,12 +1,12 @@
 -- A cut at the first place where a byte stands.
-use Rattle.std.proofs.Common.{not, ◌≡◌, ℕ, ◌+◌, ◌-◌, ◌<◌, ◌≤◌, Bool, true, false, cond, List, [], ◌∷◌, length, take, drop, Some, None, position, refl, sym, ap, ◌∙◌, arith, Option, Bor, ◌==◌, count_by}
+use Rattle.std.proofs.Common.{◌≡◌, ℕ, ◌+◌, ◌-◌, ◌<◌, ◌≤◌, Bool, true, false, cond, List, [], ◌∷◌, length, take, drop, Some, None, position, refl, sym, ap, ◌∙◌, arith, Option, Bor, ◌==◌, count_by}
 use Rattle.std.proofs.lemmas.Bool.Decides.{nat_tests}
 use Rattle.ct_script.specs.Cuts.{parts_of_rest}
 use Rattle.std.specs.List.{slice_split, position_or_len}
 use Rattle.std.proofs.lemmas.List.Splits.{slice_split_first, slice_split_none, length-slice_split}
 use Rattle.std.specs.Prelude.{slice_index, nat_lt}
 use Rattle.memchr.specs.Find.{IsFirstByte}
-use Rattle.std.proofs.lemmas.List.Sums.{fails_before_first, position_or_len_is, prefix_len-le-length}
+use Rattle.std.proofs.lemmas.List.Sums.{fails_before_first, position_or_len_is}
 use Rattle.std.proofs.lemmas.List.Elements.{All-from_get_or}
 use Rattle.std.proofs.lemmas.List.{take_rest}
 use Rattle.std.proofs.lemmas.Bool.{ltb-true, ltb-false}
@@ -47,14 +47,6 @@ found_first p xs (Some place) first =
     let within = first.0.high in
     let some : nat_lt (position_or_len p xs) (length xs) ≡ true = grind (arith, nat_tests) in
     ap Some (sym is) ∙ sym (ap (λ t. cond t (Some (position_or_len p xs)) None) some)
-
-pub place_first : {X : Type 0} (p : X → Bool) (xs : List X) (n : ℕ) → position p xs ≡ Some n → n ≡ position_or_len p xs
-place_first p xs n h = sym (some_at _ _ _ h).1
-
-pub place_past : {X : Type 0} (p : X → Bool) (xs : List X) → position p xs ≡ None → length xs ≡ position_or_len p xs
-place_past p xs h =
-    let past : length xs ≤ position_or_len p xs = ltb-false _ _ (none_at _ (position_or_len p xs) h) in
-    omega (arith, prefix_len-le-length (λ x. not (p x)) xs)
 
 -- there is a part as long as something is left to be cut, even nothing
 pub part_left : (at : ℕ) (rest : Option (Bor (List ℕ))) (text : Bor (List ℕ)) → rest ≡ Some text → false ≡ (length (parts_of_rest at rest) == 0)

@@ -1,5 +1,5 @@
 -- Reading byte texts, piece by piece.
-use Rattle.std.proofs.Common.{◌≡◌, ℕ, zero, suc, ◌+◌, ◌-◌, ◌*◌, ◌/◌, ◌^◌, ◌<◌, ◌≤◌, min, Bool, true, false, cond, Bor, MatchResult, List, [], ◌∷◌, ◌++◌, length, take, replicate, Option, Some, None, Result, Ok, Err, refl, sym, ap, ◌∙◌, arith}
+use Rattle.std.proofs.Common.{◌≡◌, ℕ, zero, suc, ◌+◌, ◌-◌, ◌*◌, ◌^◌, ◌<◌, ◌≤◌, min, Bool, true, false, cond, Bor, MatchResult, List, [], ◌∷◌, ◌++◌, length, take, replicate, Option, Some, None, Result, Ok, Err, refl, sym, ap, ◌∙◌, arith}
 use Rattle.std.specs.Prelude.{option_map, nat_le, ◌==◌, if◌then◌else◌}
 use Rattle.std.proofs.lemmas.List.{append_assoc, take_all, length-take, length-take-le}
 use Rattle.std.proofs.lemmas.Bool.Decides.{nat_tests}
@@ -33,14 +33,6 @@ decoded (c ∷ cs) bytes h = by_result (decode_of (c ∷ cs)) h
     by_result (Ok found) e = cc
     by_result (Err f) e = absurd (cc)
 
--- half a pair is none
-pub no_pair : (text : List ℕ) → length text / 2 ≡ 0 → pairs_of text ≡ None
-no_pair text none = by_pairs (pairs_of text) refl
-  where
-    by_pairs : (found : Option (List ℕ)) → pairs_of text ≡ found → pairs_of text ≡ None
-    by_pairs None e = e
-    by_pairs (Some bytes) e = absurd (omega (arith, pairs_of-some text bytes e, none))
-
 -- Up to so many bytes
 
 take_append : (most : ℕ) (xs ys : List ℕ) → take most (take most xs ++ ys) ≡ take most (xs ++ ys)
@@ -71,10 +63,6 @@ at_most_taken most (Some all) bytes h =
     let is : take most all ≡ bytes = cc in
     let long : length bytes ≡ min most (length all) = sym (ap length is) ∙ length-take most all in
     omega (arith, long)
-
-pub adds_none : (most : ℕ) (old : List ℕ) (found others : Option (List ℕ)) → option_map (take most) (joined (Some old) found) ≡ None → option_map (take most) (joined (Some old) (joined found others)) ≡ None
-adds_none most old None others h = refl
-adds_none most old (Some bytes) others h = absurd (cc)
 
 -- a byte so often, up to so many bytes
 pub run_up_to : (most count added byte : ℕ) (old : List ℕ) → length old ≤ most → added ≡ min count (most - length old) → take most (old ++ replicate count byte) ≡ old ++ replicate added byte
