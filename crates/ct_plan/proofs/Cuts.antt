@@ -11,14 +11,8 @@ use Rattle.ct_plan.specs.declared.operation.BlockOp.{BlockOp}
 use Rattle.ct_cdb.specs.Performed.{is_performed, is_inside}
 use Rattle.ct_plan.specs.Plans.{gets, puts, plan_of}
 use Rattle.ct_plan.specs.Cells.{Cells, out_block, after_all, performed, joined, in_pieces}
-use Rattle.ct_plan.proofs.Lists.{after_all-append, performed-all}
+use Rattle.ct_plan.proofs.Performing.{performed-append, performed-all}
 use Rattle.ct_plan.specs.Effects.{Disk, blocks_of, spliced, written_disk, data_in}
-
-performed-append : (out : List ℕ) (xs ys : List BlockOp) (cells : Cells) → performed out (xs ++ ys) cells ≡ joined (performed out xs cells) (performed out ys (performed out xs cells).cells)
-performed-append out xs ys cells =
-    rw (performed-all out (xs ++ ys) cells, performed-all out xs cells, performed-all out ys (after_all out xs cells))
-    (ap (λ n. record { made = n; difference = None; cells = after_all out (xs ++ ys) cells }) (length-append xs ys)
-    ∙ ap (λ cs. record { made = length xs + length ys; difference = None; cells = cs }) (after_all-append out xs ys cells))
 
 pub all_pieces : (out sizes : List ℕ) (operations : List BlockOp) (cells : Cells) → in_pieces out sizes operations cells ≡ performed out (take (sum sizes) operations) cells
 all_pieces out [] operations cells = refl
@@ -76,8 +70,22 @@ unfolding plan_of
 whole_plan (Read10 lba count) out disk h = rw h (all_got out disk [] lba count (leb-true _ _ (inside (length out) (length disk) (Read10 lba count) h)))
 whole_plan (Write10 lba count) out disk h = rw h (all_put out disk [] lba 0 count (leb-true _ _ (inside (length out) (length disk) (Write10 lba count) h)))
 
+-- gets and puts find no difference
+gets_even : (out : List ℕ) (lba count : ℕ) (cells : Cells) → (performed out (gets lba count) cells).difference ≡ None
+gets_even out lba zero cells = refl
+gets_even out lba (suc count) cells = gets_even out (lba + 1) count _
+
+puts_even : (out : List ℕ) (lba place count : ℕ) (cells : Cells) → (performed out (puts lba place count) cells).difference ≡ None
+puts_even out lba place zero cells = refl
+puts_even out lba place (suc count) cells = puts_even out (lba + 1) (place + 1) count _
+
+plan_even : (op : Op) (out : List ℕ) (disk : Disk) → is_performed (length out) (length disk) op ≡ true → (performed out (plan_of (length out) (length disk) op) (cells_of disk [])).difference ≡ None
+unfolding plan_of
+plan_even (Read10 lba count) out disk h = rw h (gets_even out lba count (cells_of disk []))
+plan_even (Write10 lba count) out disk h = rw h (puts_even out lba 0 count (cells_of disk []))
+
 pub whole_progress : (op : Op) (out : List ℕ) (disk : Disk) → is_performed (length out) (length disk) op ≡ true
     → performed out (plan_of (length out) (length disk) op) (cells_of disk []) ≡ record { made = length (plan_of (length out) (length disk) op); difference = None; cells = cells_of (written_disk op out disk) (data_in op disk) }
 whole_progress op out disk h =
-    performed-all out (plan_of (length out) (length disk) op) (cells_of disk [])
+    performed-all out (plan_of (length out) (length disk) op) (cells_of disk []) (plan_even op out disk h)
     ∙ ap (λ cs. record { made = length (plan_of (length out) (length disk) op); difference = None; cells = cs }) (whole_plan op out disk h)

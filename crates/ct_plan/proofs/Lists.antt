@@ -1,9 +1,8 @@
--- Items of lists by their places, and what operations do that stand in two lists.
+-- Items of lists by their places, and the gets among operations.
 use Rattle.std.proofs.Common.{◌≡◌, ℕ, zero, suc, ◌+◌, ◌<◌, List, [], ◌∷◌, ◌++◌, length, take, drop, slice_get, None, Some, refl, ap, ◌∙◌, arith}
 use Rattle.ct_plan.specs.declared.operation.BlockOp.{BlockOp}
 use Rattle.ct_plan.specs.declared.operation.BlockOp.TheVariants as operations
 use Rattle.ct_plan.specs.Plans.{gets_among}
-use Rattle.ct_plan.specs.Cells.{Cells, Progress, after, after_all, performed}
 
 pub slice_get-drop : {X : Type 0} (count : ℕ) (xs : List X) (place : ℕ) → slice_get (drop count xs) place ≡ slice_get xs (count + place)
 slice_get-drop zero xs place = ap (slice_get xs) (omega arith)
@@ -37,24 +36,12 @@ drop-at (suc count) (y ∷ ys) x found = drop-at count ys x found
 
 pub gets_among-cons : (operation : BlockOp) (others : List BlockOp) → gets_among (operation ∷ others) ≡ gets_among (operation ∷ []) + gets_among others
 gets_among-cons (operations.Get lba) others = omega arith
+gets_among-cons (operations.Look lba) others = omega arith
 gets_among-cons (operations.Put lba place) others = omega arith
+gets_among-cons (operations.Zero lba) others = omega arith
+gets_among-cons (operations.Compare lba place) others = omega arith
 
 pub gets_among-append : (xs ys : List BlockOp) → gets_among (xs ++ ys) ≡ gets_among xs + gets_among ys
 gets_among-append [] ys = omega arith
 gets_among-append (x ∷ xs) ys =
     omega (arith, gets_among-append xs ys, gets_among-cons x (xs ++ ys), gets_among-cons x xs)
-
-pub after_all-append : (out : List ℕ) (xs ys : List BlockOp) (cells : Cells) → after_all out (xs ++ ys) cells ≡ after_all out ys (after_all out xs cells)
-after_all-append out [] ys cells = refl
-after_all-append out (x ∷ xs) ys cells = after_all-append out xs ys (after out x cells)
-
--- operations that compare nothing come all the way
-abbrev pub all_made : List ℕ → List BlockOp → Cells → Progress
-all_made out operations cells = record { made = length operations; difference = None; cells = after_all out operations cells }
-
-pub performed-all : (out : List ℕ) (operations : List BlockOp) (cells : Cells) → performed out operations cells ≡ all_made out operations cells
-performed-all out [] cells = refl
-performed-all out (operations.Get lba ∷ others) cells =
-    ap (λ (p : Progress). record p { made = suc p.made }) (performed-all out others (after out (operations.Get lba) cells))
-performed-all out (operations.Put lba place ∷ others) cells =
-    ap (λ (p : Progress). record p { made = suc p.made }) (performed-all out others (after out (operations.Put lba place) cells))

@@ -1,5 +1,5 @@
 -- What one operation does, and a piece of several.
-use Rattle.std.proofs.Common.{◌≡◌, ℕ, zero, suc, ◌+◌, ◌-◌, ◌*◌, ◌<◌, ◌≤◌, List, [], ◌∷◌, ◌++◌, length, take, drop, set, get_or, slice_get, Option, None, Some, Bool, true, false, is_some, cond, option_map, ◌==◌, if◌then◌else◌, rules, refl, sym, ap, ◌∙◌, subst, arith, add-one, length-take, take_all, length-append, length-set}
+use Rattle.std.proofs.Common.{◌≡◌, ℕ, zero, suc, ◌+◌, ◌-◌, ◌*◌, ◌<◌, ◌≤◌, List, [], ◌∷◌, ◌++◌, length, take, drop, set, get_or, slice_get, Option, None, Some, Bool, true, false, is_some, cond, option_map, ◌==◌, if◌then◌else◌, rules, refl, sym, ap, ◌∙◌, subst, arith, add-one, length-take, take-take, take-append-drop, length-append, length-set}
 use Rattle.std.specs.List.{All}
 use Rattle.std.proofs.lemmas.List.Sums.{sum_by-set}
 use Rattle.ct_word.specs.Kept.{Kept}
@@ -9,12 +9,13 @@ use Rattle.ct_plan.specs.declared.operation.BlockOp.{BlockOp}
 use Rattle.ct_plan.specs.declared.operation.BlockOp.TheVariants as operations
 use Rattle.ct_plan.specs.declared.task.Task.{Task}
 use Rattle.ct_plan.specs.declared.task.Piece.{Piece}
-use Rattle.ct_plan.specs.declared.task.PieceEnd.TheVariants.{All as AllDone}
+use Rattle.ct_plan.specs.declared.task.PieceEnd.TheVariants.{All as AllDone, Miscompare}
 use Rattle.ct_plan.specs.Plans.{gets_among}
-use Rattle.ct_plan.specs.Cells.{Cells, out_block, after_all, performed}
+use Rattle.ct_plan.specs.Cells.{Cells, Progress, after, after_all, difference_at, unless, performed, joined_where}
 use Rattle.ct_plan.specs.Tasks.{IsReady, IsInside, IsCovered, left, cells_of}
-use Rattle.ct_plan.specs.Pieces.{Makes, Uses, Advances, fault_of, fault_behind, unfailed_end}
-use Rattle.ct_plan.proofs.Lists.{slice_get-drop, slice_get-within, take-one_more, drop-at, gets_among-cons, gets_among-append, after_all-append, performed-all}
+use Rattle.ct_plan.specs.Pieces.{Makes, Performs, Uses, Advances, fault_of, fault_behind, tried, unfailed_end, end_of}
+use Rattle.ct_plan.proofs.Lists.{slice_get-drop, slice_get-within, take-one_more, drop-at, gets_among-cons, gets_among-append}
+use Rattle.ct_plan.proofs.Performing.{after_all-append, performed-on, performed-stopped, performed-all, performed-cells, made_within, difference_still}
 
 module _ (out : List ℕ) (old : Task) (before : List (List ℕ)) where
   pub makes_nothing : Makes out [] old old before before
@@ -28,33 +29,17 @@ module _ (out : List ℕ) (old : Task) (before : List (List ℕ)) where
     size = refl;
   }
 
-  -- a get, whose block went behind the data
-  pub makes_get : (operation : BlockOp) (lba : ℕ) (body : Kept ℕ) (task : Task) (after : List (List ℕ)) → operation ≡ operations.Get lba → task ≡ record old { body = body } → body.items ≡ old.body.items ++ get_or before lba [] → length body.items ≡ length old.body.items + 512 → body.room + 512 ≡ old.body.room → after ≡ before
-      → Makes out (operation ∷ []) old (record task { done = task.done + 1 }) before after
-  makes_get operation lba body task after is task_is got grown room stays =
-      rw (is, task_is) (record {
-        plan = refl;
-        lease = refl;
-        done = refl;
-        cells = ap (λ (bs : List (List ℕ)). record { blocks = bs; got = body.items }) stays ∙ ap (λ (data_in : List ℕ). record { blocks = before; got = data_in }) got;
-        room = omega (arith, room);
-        grown = omega (arith, grown);
-        size = ap length stays;
-      })
-
-  -- a put, whose block of the data-out stands on the medium
-  pub makes_put : (operation : BlockOp) (lba place : ℕ) (task : Task) (after : List (List ℕ)) → operation ≡ operations.Put lba place → task ≡ old → after ≡ set before lba (out_block out place)
-      → Makes out (operation ∷ []) old (record task { done = task.done + 1 }) before after
-  makes_put operation lba place task after is task_is put =
-      rw (is, task_is) (record {
-        plan = refl;
-        lease = refl;
-        done = refl;
-        cells = ap (λ (bs : List (List ℕ)). record { blocks = bs; got = old.body.items }) put;
-        room = omega arith;
-        grown = omega arith;
-        size = ap length put ∙ length-set before lba (out_block out place);
-      })
+  pub makes_one : (operation : BlockOp) (body : Kept ℕ) (after : List (List ℕ)) → Performs out operation old.body body before after
+      → Makes out (operation ∷ []) old (record old { body = body; done = old.done + 1 }) before after
+  makes_one operation body after performs = record {
+    plan = refl;
+    lease = refl;
+    done = refl;
+    cells = performs.cells;
+    room = performs.room;
+    grown = performs.grown;
+    size = performs.size;
+  }
 
   -- a task that went on, and went on from there
   pub makes_both : (middle new : Task) (between after : List (List ℕ)) (first second : List BlockOp) → Makes out first old middle before between → Makes out second middle new between after
@@ -77,13 +62,6 @@ found_within : (leases : List (Option (List (List ℕ)))) (key : ℕ) (blocks : 
 found_within [] key blocks found = absurd (cc)
 found_within (slot ∷ rest) zero blocks found = omega arith
 found_within (slot ∷ rest) (suc key) blocks found = omega (arith, found_within rest key blocks found)
-
--- the bytes that a put copies are a block of the data-out
-pub copied_block : (out : List ℕ) (place : ℕ) → take (place * 512 + 512 - place * 512) (drop (place * 512) out) ≡ out_block out place
-copied_block out place =
-    let size : place * 512 + 512 - place * 512 ≡ 512 = omega arith in
-    let at : place * 512 ≡ 512 * place = omega arith in
-    ap (λ n. take n (drop (place * 512) out)) size ∙ ap (λ n. take 512 (drop n out)) at
 
 -- the bytes of a block of a lease changed
 pub uses_block : (pool : PoolState) (lease : LeaseState) (place : ℕ) (block : List ℕ) → IsLeaseOf pool lease → Uses pool (with_block pool lease place block) lease
@@ -137,21 +115,53 @@ ready_behind out bytes old new before after pool pool' operation ready made used
       rw (made.plan, there) (omega (arith, ready.room, made.room, gets_among-cons operation (drop (suc old.done) old.plan.operations), ap gets_among (drop-at old.done old.plan.operations operation found)));
 }
 
+-- one operation more, behind operations that found no difference
+module _ (out : List ℕ) (pieces : List BlockOp) (start : Cells) (count : ℕ) (operation : BlockOp) (now : Cells) where
+  abbrev one : Progress
+  one = performed out (operation ∷ []) now
+
+  behind_one : (performed out (take count pieces) start).difference ≡ None → now ≡ after_all out (take count pieces) start → slice_get pieces count ≡ Some operation
+      → performed out (take (suc count) pieces) start ≡ record one { made = count + one.made }
+  behind_one even here found =
+      let first = performed-all out (take count pieces) start even in
+      let within = slice_get-within pieces count operation found in
+      let size : length (take count pieces) ≡ count = omega (arith, length-take count pieces, within) in
+      ap (λ (ops : List BlockOp). performed out ops start) (take-one_more count pieces operation found)
+      ∙ performed-on out (take count pieces) (operation ∷ []) start even
+      ∙ ap (λ (p : Progress). joined_where None p (performed out (operation ∷ []) p.cells)) first
+      ∙ ap (λ (n : ℕ). joined_where None (record { made = n; difference = None; cells = after_all out (take count pieces) start }) (performed out (operation ∷ []) (after_all out (take count pieces) start))) size
+      ∙ ap (λ (c : Cells). record (performed out (operation ∷ []) c) { made = count + (performed out (operation ∷ []) c).made }) (sym here)
+
+  pub still_even : (performed out (take count pieces) start).difference ≡ None → now ≡ after_all out (take count pieces) start → slice_get pieces count ≡ Some operation → difference_at out operation now ≡ None
+      → (performed out (take (count + 1) pieces) start).difference ≡ None
+  still_even even here found none =
+      rw add-one (ap (λ (p : Progress). p.difference) (behind_one even here found)
+      ∙ ap (λ (d : Option ℕ). (unless d now (performed out [] (after out operation now))).difference) none)
+
+  pub differs_now : (offset : ℕ) → (performed out (take count pieces) start).difference ≡ None → now ≡ after_all out (take count pieces) start → slice_get pieces count ≡ Some operation → difference_at out operation now ≡ Some offset
+      → performed out pieces start ≡ record { made = count + 1; difference = Some offset; cells = now }
+  differs_now offset even here found differs =
+      let front : performed out (take (suc count) pieces) start ≡ record { made = count + 1; difference = Some offset; cells = now } =
+      behind_one even here found ∙ ap (λ (d : Option ℕ). record (unless d now (performed out [] (after out operation now))) { made = count + (unless d now (performed out [] (after out operation now))).made }) differs in
+      ap (λ (ops : List BlockOp). performed out ops start) (sym (take-append-drop (suc count) pieces))
+      ∙ performed-stopped out (take (suc count) pieces) (drop (suc count) pieces) start offset (ap (λ (p : Progress). p.difference) front)
+      ∙ front
+
 -- a piece that made all of its operations
 module _ (out : List ℕ) (pieces : List BlockOp) (old new : Task) (before after : List (List ℕ)) where
   abbrev cells : Cells
   cells = cells_of before old
 
-  pub advances_whole : (count : ℕ) → Makes out pieces old new before after → length pieces ≡ count
+  pub advances_whole : (count : ℕ) → Makes out pieces old new before after → (performed out pieces cells).difference ≡ None → length pieces ≡ count
       → Advances out pieces old new before after (record { moved = count; end = unfailed_end new }) (fault_behind count (unfailed_end new))
-  advances_whole count made all =
-      let far = performed-all out pieces cells in
+  advances_whole count made even all =
+      let far = performed-all out pieces cells even in
       subst (Advances out pieces old new before after (record { moved = count; end = unfailed_end new })) (sym (no_fault (new.done == length new.plan.operations))) (record {
         moved = sym all ∙ sym (ap (λ p. p.made) far);
         done = omega (arith, made.done, all);
         blocks = ap (λ c. c.blocks) made.cells ∙ sym (ap (λ p. p.cells.blocks) far);
         got = ap (λ c. c.got) made.cells ∙ sym (ap (λ p. p.cells.got) far);
-        end = refl;
+        end = ap (end_of new pieces None) (sym even);
         within = search rules;
         plan = made.plan;
         lease = made.lease;
@@ -164,16 +174,18 @@ module _ (out : List ℕ) (pieces : List BlockOp) (old new : Task) (before after
       no_fault false = refl
 
   -- a piece that the medium ended, behind some of its pieces
-  pub advances_fault : (count : ℕ) (operation : BlockOp) (task : Task) (blocks : List (List ℕ)) → Makes out (take count pieces) old task before blocks → new ≡ task → after ≡ blocks → slice_get pieces count ≡ Some operation
+  pub advances_fault : (count : ℕ) (operation : BlockOp) (task : Task) (blocks : List (List ℕ)) → Makes out (take count pieces) old task before blocks → (performed out (take count pieces) cells).difference ≡ None
+      → new ≡ task → after ≡ blocks → slice_get pieces count ≡ Some operation
       → Advances out pieces old new before after (record { moved = count; end = Some (fault_of operation) }) (fault_behind count (Some (fault_of operation)))
-  advances_fault count operation task blocks made new_is after_is found =
+  advances_fault count operation task blocks made even new_is after_is found =
       let within = slice_get-within pieces count operation found in
+      let far = performed-all out (take count pieces) cells even in
       subst (Advances out pieces old new before after (record { moved = count; end = Some (fault_of operation) })) (sym (is_there operation)) (rw (new_is, after_is) (record {
-        moved = refl;
+        moved = sym (ap (λ (p : Progress). p.made) far ∙ omega (arith, length-take count pieces, within));
         done = omega (arith, made.done, length-take count pieces, within);
-        blocks = ap (λ c. c.blocks) made.cells;
-        got = ap (λ c. c.got) made.cells;
-        end = sym (ap (option_map fault_of) found);
+        blocks = ap (λ c. c.blocks) made.cells ∙ sym (ap (λ (p : Progress). p.cells.blocks) far);
+        got = ap (λ c. c.got) made.cells ∙ sym (ap (λ (p : Progress). p.cells.got) far);
+        end = sym (ap (option_map fault_of) found) ∙ ap (end_of task pieces (Some count)) (sym even);
         within = within;
         plan = made.plan;
         lease = made.lease;
@@ -183,25 +195,48 @@ module _ (out : List ℕ) (pieces : List BlockOp) (old new : Task) (before after
     where
       is_there : (failed : BlockOp) → fault_behind count (Some (fault_of failed)) ≡ Some count
       is_there (operations.Get lba) = refl
+      is_there (operations.Look lba) = refl
       is_there (operations.Put lba place) = refl
+      is_there (operations.Zero lba) = refl
+      is_there (operations.Compare lba place) = refl
 
--- what a caller learns of a piece, whether a fault ended it or not
+  -- a piece that stopped behind a difference
+  pub advances_differs : (count : ℕ) (operation : BlockOp) (task : Task) (between : List (List ℕ)) (offset : ℕ) → Makes out (take count pieces) old task before between
+      → (performed out (take count pieces) cells).difference ≡ None → slice_get pieces count ≡ Some operation → difference_at out operation (cells_of between task) ≡ Some offset
+      → Makes out (operation ∷ []) task new between after → Advances out pieces old new before after (record { moved = count + 1; end = Some (Miscompare offset) }) None
+  advances_differs count operation task between offset made even found differs last =
+      let far = differs_now out pieces cells count operation (cells_of between task) offset even made.cells found differs in
+      let within = slice_get-within pieces count operation found in
+      let same : cells_of after new ≡ cells_of between task = last.cells ∙ difference_still out operation (cells_of between task) offset differs in
+      record {
+        moved = sym (ap (λ (p : Progress). p.made) far);
+        done = omega (arith, made.done, last.done, length-take count pieces, within);
+        blocks = ap (λ (c : Cells). c.blocks) same ∙ sym (ap (λ (p : Progress). p.cells.blocks) far);
+        got = ap (λ (c : Cells). c.got) same ∙ sym (ap (λ (p : Progress). p.cells.got) far);
+        end = ap (end_of new pieces None) (sym (ap (λ (p : Progress). p.difference) far));
+        within = search rules;
+        plan = last.plan ∙ made.plan;
+        lease = last.lease ∙ made.lease;
+        room = omega (arith, made.room, made.grown, last.room, last.grown);
+        size = last.size ∙ made.size;
+      }
+
+-- what a caller learns of a piece, whatever ended it
 module _ (out : List ℕ) (pieces : List BlockOp) (old new : Task) (before after : List (List ℕ)) (piece : Piece) where
-  pub moved_all : Advances out pieces old new before after piece None → piece.moved ≡ length pieces
-  moved_all advanced = advanced.moved ∙ ap (λ p. p.made) (performed-all out pieces (cells_of before old))
-
   pub moved_within : (fault : Option ℕ) → Advances out pieces old new before after piece fault → piece.moved ≤ length pieces
-  moved_within None advanced = omega (arith, moved_all advanced)
-  moved_within (Some place) advanced = omega (arith, advanced.moved, advanced.within)
+  moved_within None advanced = omega (arith, advanced.moved, made_within out pieces (cells_of before old))
+  moved_within (Some place) advanced = omega (arith, advanced.moved, made_within out (take place pieces) (cells_of before old), length-take place pieces)
 
+  -- the operations that a piece made are a front of those asked for
   pub cells_moved : (fault : Option ℕ) → Advances out pieces old new before after piece fault → cells_of after new ≡ after_all out (take piece.moved pieces) (cells_of before old)
-  cells_moved None advanced =
-      let far = performed-all out pieces (cells_of before old) in
-      let all : take piece.moved pieces ≡ pieces = ap (λ n. take n pieces) (moved_all advanced) ∙ take_all (length pieces) pieces (omega arith) in
+  cells_moved fault advanced =
+      let far : Progress = performed out (tried pieces fault) (cells_of before old) in
       ap (λ bs. record { blocks = bs; got = new.body.items }) advanced.blocks
-      ∙ ap (λ items. record { blocks = (performed out pieces (cells_of before old)).cells.blocks; got = items }) advanced.got
-      ∙ ap (λ p. p.cells) far ∙ ap (λ ops. after_all out ops (cells_of before old)) (sym all)
-  cells_moved (Some place) advanced =
-      ap (λ bs. record { blocks = bs; got = new.body.items }) advanced.blocks
-      ∙ ap (λ items. record { blocks = (after_all out (take place pieces) (cells_of before old)).blocks; got = items }) advanced.got
-      ∙ ap (λ n. after_all out (take n pieces) (cells_of before old)) (sym advanced.moved)
+      ∙ ap (λ items. record { blocks = far.cells.blocks; got = items }) advanced.got
+      ∙ performed-cells out (tried pieces fault) (cells_of before old)
+      ∙ ap (λ (n : ℕ). after_all out (take n (tried pieces fault)) (cells_of before old)) (sym advanced.moved)
+      ∙ ap (λ (ops : List BlockOp). after_all out ops (cells_of before old)) (front fault (rw advanced.moved (made_within out (tried pieces fault) (cells_of before old))))
+    where
+      front : (fault : Option ℕ) → piece.moved ≤ length (tried pieces fault) → take piece.moved (tried pieces fault) ≡ take piece.moved pieces
+      front None within = refl
+      front (Some place) within = take-take piece.moved place pieces (omega (arith, within, length-take place pieces))

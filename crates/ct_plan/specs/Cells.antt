@@ -1,5 +1,6 @@
--- What block operations do, one after another.
-use Rattle.std.specs.Prelude.{ℕ, suc, ◌+◌, ◌*◌, List, [], ◌∷◌, ◌++◌, Option, None, Some, take, drop, slice_set, slice_index_or}
+-- What block operations do: to the blocks of a disk, and to the data of the command that makes them.
+use Rattle.std.specs.Prelude.{ℕ, suc, ◌+◌, ◌*◌, List, [], ◌∷◌, ◌++◌, take, drop, replicate, slice_set, slice_index_or, Option, None, Some, option_map, not, ◌==◌, position}
+use Rattle.std.specs.List.{zip}
 use Rattle.ct_plan.specs.declared.operation.BlockOp.{BlockOp}
 use Rattle.ct_plan.specs.declared.operation.BlockOp.TheVariants as operations
 
@@ -15,20 +16,35 @@ out_block out place = take 512 (drop (512 * place) out)
 abbrev pub with_block : Cells → ℕ → List ℕ → Cells
 with_block cells lba block = record cells { blocks = slice_set cells.blocks lba block }
 
+-- a block of zeros
+abbrev pub zero_block : List ℕ
+zero_block = replicate 512 0
+
 -- one operation
 abbrev pub after : List ℕ → BlockOp → Cells → Cells
 after out (operations.Get lba) cells = record cells { got = cells.got ++ slice_index_or cells.blocks lba [] }
+after out (operations.Look lba) cells = cells
 after out (operations.Put lba place) cells = with_block cells lba (out_block out place)
+after out (operations.Zero lba) cells = with_block cells lba zero_block
+after out (operations.Compare lba place) cells = cells
 
 -- operations, one after another
 abbrev pub after_all : List ℕ → List BlockOp → Cells → Cells
 after_all out [] cells = cells
 after_all out (operation ∷ others) cells = after_all out others (after out operation cells)
 
--- the offset of the first byte at which an operation finds a difference; gets and puts compare nothing
+-- the place of the first byte at which two lists differ
+abbrev pub first_difference : List ℕ → List ℕ → Option ℕ
+first_difference xs ys = position (λ pair. not (pair.0 == pair.1)) (zip xs ys)
+
+-- the offset in the data-out of the first byte that isn't that of the medium, at an operation that compares
 abbrev pub difference_at : List ℕ → BlockOp → Cells → Option ℕ
 difference_at out (operations.Get lba) cells = None
+difference_at out (operations.Look lba) cells = None
 difference_at out (operations.Put lba place) cells = None
+difference_at out (operations.Zero lba) cells = None
+difference_at out (operations.Compare lba place) cells =
+    option_map (λ at. 512 * place + at) (first_difference (slice_index_or cells.blocks lba []) (out_block out place))
 
 -- how far operations came: how many were made, one that found a difference among them, and what they did
 pub record Progress : Type 0 where

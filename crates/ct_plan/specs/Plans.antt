@@ -33,18 +33,26 @@ plan_of out blocks op = if is_performed out blocks op then operations_of op else
 unfoldable pub need_of : ℕ → ℕ → Op → ℕ
 need_of out blocks op = if is_performed out blocks op then blocks_needed op else 0
 
+-- it changes a block
 abbrev pub is_put : BlockOp → Bool
+is_put (operations.Get lba) = false
+is_put (operations.Look lba) = false
 is_put (operations.Put lba place) = true
-is_put _ = false
+is_put (operations.Zero lba) = true
+is_put (operations.Compare lba place) = false
 
 -- how many of these operations are puts
 abbrev pub puts_among : List BlockOp → ℕ
 puts_among [] = 0
 puts_among (operation ∷ others) = if is_put operation then suc (puts_among others) else puts_among others
 
+-- it gives a block to the initiator
 abbrev pub is_get : BlockOp → Bool
 is_get (operations.Get lba) = true
-is_get _ = false
+is_get (operations.Look lba) = false
+is_get (operations.Put lba place) = false
+is_get (operations.Zero lba) = false
+is_get (operations.Compare lba place) = false
 
 -- how many of these operations are gets
 abbrev pub gets_among : List BlockOp → ℕ

@@ -4,6 +4,12 @@
 pub enum BlockOp {
     /// The block is given to the initiator.
     Get(u32),
+    /// The block is read, and given to nobody.
+    Look(u32),
     /// A block of the data-out is put.
     Put(u32, u32),
+    /// A block of zeros is put.
+    Zero(u32),
+    /// The block is compared with a block of the data-out.
+    Compare(u32, u32),
 }

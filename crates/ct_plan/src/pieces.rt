@@ -1,9 +1,10 @@
-ghost use Rattle.std.specs.Prelude.{◌≡◌, ◌+◌, ◌-◌, ◌*◌, ◌^◌, ◌<◌, ◌≤◌, [], ◌∷◌, ◌++◌, length, slice_set, slice_index_or, OnOk, OnErr, OnSome};
+ghost use Rattle.std.specs.Prelude.{◌≡◌, ◌+◌, ◌-◌, ◌*◌, ◌^◌, ◌<◌, ◌≤◌, [], ◌∷◌, ◌++◌, length, slice_set, slice_index_or, option_map, OnOk, OnErr, OnSome, IfOk, IfSome, None};
 ghost use Rattle.ct_medium.specs.Causes.{HasCause};
 ghost use Rattle.ct_pool.specs.Leases.{IsLeaseOf};
 ghost use Rattle.ct_plan.specs.Plans.{gets_among};
-ghost use Rattle.ct_plan.specs.Tasks.{IsReady, IsInside, IsCovered, asked};
-ghost use Rattle.ct_plan.specs.Pieces.{Advances, Uses, Makes, fault_of, fault_in, unfailed_end};
+ghost use Rattle.ct_plan.specs.Cells.{out_block, zero_block, first_difference, difference_at};
+ghost use Rattle.ct_plan.specs.Tasks.{IsReady, IsInside, IsCovered, IsTold, asked, cells_of};
+ghost use Rattle.ct_plan.specs.Pieces.{Advances, Uses, Makes, Performs, fault_of, fault_in, unfailed_end};
 
 use crate::operation::BlockOp;
 use crate::task::{Piece, PieceEnd, Task};
@@ -11,10 +12,28 @@ use ct_medium::Backend;
 use ct_pool::Pool;
 use ct_word::{Block, Failed, Reserve};
 
-// Gets a block of the medium into a leased block, and from there into the data.
+// A block of the data-out.
+fn out_block(out: &[u8], place: u32) -> &[u8]
+    requires { 512 * (place + 1) ≤ length out.now }
+    ensures block { result.now ≡ out_block out.now place }
+    ensures whole { length result.now ≡ 512 }
+{
+    let at = place as usize * 512;
+    &out[at..at + 512]
+}
+
+// The place of the first byte at which a block differs from these bytes.
+fn first_difference(block: &[u8; 512], bytes: &[u8]) -> Option<usize>
+    ensures place { result ≡ first_difference block.now bytes.now }
+    ensures within { IfSome result (λ at. at < 512) }
+{
+    block.iter().zip(bytes).position(|(a, b)| a != b)
+}
+
+// Gets a block of the medium into a buffer, and from there into the data.
 fn get<B: Backend>(
     lba: u32,
-    block: &mut Block,
+    buffer: &mut Block,
     body: &mut Reserve<u8>,
     medium: &mut B,
 ) -> Result<(), Failed>
@@ -27,53 +46,112 @@ fn get<B: Backend>(
     ensures stays { B.blocks medium.new ≡ B.blocks medium.old }
     ensures cause { HasCause (B.faults medium.old) (B.faults medium.new) result }
 {
-    medium.get(lba, block.bytes_mut())?;
-    body.append(block.bytes());
+    medium.get(lba, buffer.bytes_mut())?;
+    body.append(buffer.bytes());
     Ok(())
 }
 
-// Puts a block of the data-out by way of a leased block.
-fn put<B: Backend>(lba: u32, bytes: &[u8], block: &mut Block, medium: &mut B) -> Result<(), Failed>
+// Puts these bytes by way of a buffer.
+fn put<B: Backend>(lba: u32, bytes: &[u8], buffer: &mut Block, medium: &mut B) -> Result<(), Failed>
     requires inside { lba < length (B.blocks medium.old) }
     requires whole { length bytes.now ≡ 512 }
     ensures put { OnOk result (B.blocks medium.new ≡ slice_set (B.blocks medium.old) lba bytes.now) }
     ensures stays { OnErr result (B.blocks medium.new ≡ B.blocks medium.old) }
     ensures cause { HasCause (B.faults medium.old) (B.faults medium.new) result }
 {
-    block.fill(bytes);
-    medium.swap(lba, block)
+    buffer.fill(bytes);
+    medium.swap(lba, buffer)
 }
 
-// Makes one operation, by way of the leased block at the place of the operation in its plan.
+// Compares a block of the medium with these bytes, which stand in the data-out behind so many blocks: the offset there of
+// the first byte that differs.
+fn compare<B: Backend>(
+    lba: u32,
+    place: u32,
+    bytes: &[u8],
+    buffer: &mut Block,
+    medium: &mut B,
+) -> Result<Option<u32>, Failed>
+    requires inside { lba < length (B.blocks medium.old) }
+    requires told { 512 * (place + 1) ≤ 2 ^ 32 }
+    ensures found { IfOk result (λ found. found ≡ option_map (λ at. 512 * place + at) (first_difference (slice_index_or (B.blocks medium.old) lba []) bytes.now)) }
+    ensures stays { B.blocks medium.new ≡ B.blocks medium.old }
+    ensures cause { HasCause (B.faults medium.old) (B.faults medium.new) result }
+{
+    medium.get(lba, buffer.bytes_mut())?;
+    match first_difference(buffer.bytes(), bytes) {
+        Some(at) => Ok(Some(512 * place + at as u32)),
+        None => Ok(None),
+    }
+}
+
+// Makes one operation by way of a buffer: the offset in the data-out of the first byte that differs, if it compares and
+// finds one.
+fn perform<B: Backend>(
+    operation: BlockOp,
+    out: &[u8],
+    buffer: &mut Block,
+    body: &mut Reserve<u8>,
+    medium: &mut B,
+) -> Result<Option<u32>, Failed>
+    requires inside { IsInside (length (B.blocks medium.old)) operation }
+    requires covered { IsCovered (length out.now) operation }
+    requires told { IsTold operation }
+    requires room { 512 * gets_among (operation ∷ []) ≤ body.old.room }
+    ensures made { OnOk result (Performs out.now operation body.old body.new (B.blocks medium.old) (B.blocks medium.new)) }
+    ensures found { IfOk result (λ found. found ≡ difference_at out.now operation (record { blocks = B.blocks medium.old; got = body.old.items })) }
+    ensures kept { OnErr result (body.new ≡ body.old) }
+    ensures stays { OnErr result (B.blocks medium.new ≡ B.blocks medium.old) }
+    ensures cause { HasCause (B.faults medium.old) (B.faults medium.new) result }
+{
+    match operation {
+        BlockOp::Get(lba) => {
+            get(lba, buffer, body, medium)?;
+            Ok(None)
+        }
+        BlockOp::Look(lba) => {
+            medium.get(lba, buffer.bytes_mut())?;
+            Ok(None)
+        }
+        BlockOp::Put(lba, place) => {
+            put(lba, out_block(out, place), buffer, medium)?;
+            Ok(None)
+        }
+        BlockOp::Zero(lba) => {
+            put(lba, &[0; 512], buffer, medium)?;
+            Ok(None)
+        }
+        BlockOp::Compare(lba, place) => compare(lba, place, out_block(out, place), buffer, medium),
+    }
+}
+
+// Makes the next operation of a task, by way of one of its leased blocks.
 fn make<B: Backend>(
     operation: BlockOp,
     t: &mut Task,
     out: &[u8],
     pool: &mut Pool,
     medium: &mut B,
-) -> Result<(), Failed>
+) -> Result<Option<u32>, Failed>
     requires inside { IsInside (length (B.blocks medium.old)) operation }
     requires covered { IsCovered (length out.now) operation }
+    requires told { IsTold operation }
     requires room { 512 * gets_among (operation ∷ []) ≤ t.old.body.room }
     requires leased { IsLeaseOf pool.old t.old.lease }
-    requires place { t.old.done < t.old.lease.count }
+    requires need { t.old.lease.count ≡ t.old.plan.need }
+    requires left { t.old.done < length t.old.plan.operations }
     requires small { t.old.done + 1 < 2 ^ 32 }
     ensures made { OnOk result (Makes out.now (operation ∷ []) t.old t.new (B.blocks medium.old) (B.blocks medium.new)) }
+    ensures found { IfOk result (λ found. found ≡ difference_at out.now operation (cells_of (B.blocks medium.old) t.old)) }
     ensures kept { OnErr result (t.new ≡ t.old) }
     ensures stays { OnErr result (B.blocks medium.new ≡ B.blocks medium.old) }
     ensures pool { Uses pool.old pool.new t.old.lease }
     ensures cause { HasCause (B.faults medium.old) (B.faults medium.new) result }
 {
-    let block = pool.block(&t.lease, t.done);
-    match operation {
-        BlockOp::Get(lba) => get(lba, block, &mut t.body, medium)?,
-        BlockOp::Put(lba, place) => {
-            let at = place as usize * 512;
-            put(lba, &out[at..at + 512], block, medium)?;
-        }
-    }
+    let buffer = pool.block(&t.lease, t.plan.buffer(t.done));
+    let found = perform(operation, out, buffer, &mut t.body, medium)?;
     t.done += 1;
-    Ok(())
+    Ok(found)
 }
 
 // The end of a piece where the medium failed this operation.
@@ -81,8 +159,10 @@ fn fault(operation: BlockOp) -> PieceEnd
     ensures { result ≡ fault_of operation }
 {
     match operation {
-        BlockOp::Get(lba) => PieceEnd::ReadFault(lba),
-        BlockOp::Put(lba, _) => PieceEnd::WriteFault(lba),
+        BlockOp::Get(lba) | BlockOp::Look(lba) | BlockOp::Compare(lba, _) => PieceEnd::ReadFault(
+            lba,
+        ),
+        BlockOp::Put(lba, _) | BlockOp::Zero(lba) => PieceEnd::WriteFault(lba),
     }
 }
 
@@ -97,8 +177,8 @@ fn unfailed(t: &Task) -> Option<PieceEnd>
     }
 }
 
-/// Makes the next operations of a task's plan, at most `blocks` of them, and fewer only where the plan ends or the medium
-/// fails. It takes no memory.
+/// Makes the next operations of a task's plan, at most `blocks` of them, and fewer only where the plan ends, a compare finds
+/// a difference or the medium fails. It takes no memory.
 pub fn advance<B: Backend>(
     t: &mut Task,
     out: &[u8],
@@ -117,11 +197,20 @@ pub fn advance<B: Backend>(
     let count = blocks.min(t.plan.length() - t.done);
     for moved in 0..count {
         let operation = t.plan.next(t.done);
-        if make(operation, t, out, pool, medium).is_err() {
-            return Piece {
-                moved,
-                end: Some(fault(operation)),
-            };
+        match make(operation, t, out, pool, medium) {
+            Ok(None) => {}
+            Ok(Some(offset)) => {
+                return Piece {
+                    moved: moved + 1,
+                    end: Some(PieceEnd::Miscompare(offset)),
+                };
+            }
+            Err(Failed) => {
+                return Piece {
+                    moved,
+                    end: Some(fault(operation)),
+                };
+            }
         }
     }
     Piece {

@@ -1,5 +1,6 @@
 ghost use Rattle.std.specs.Prelude.{◌≡◌, ◌+◌, ◌<◌, ◌≤◌, length, take, slice_get, Some};
 ghost use Rattle.ct_plan.specs.Plans.{plan_of, need_of, puts_among};
+ghost use Rattle.ct_plan.specs.Tasks.{IsTold};
 
 use crate::operation::BlockOp;
 use ct_cdb::{Op, is_performed};
@@ -91,12 +92,21 @@ impl Plan {
     pub fn next(&self, done: u32) -> BlockOp
         requires { done < length self.now.operations }
         ensures value { slice_get self.now.operations done ≡ Some result }
-        ensures leased { done < self.now.need }
+        ensures told { IsTold result }
     {
         let lba = self.lba + done;
         match self.work {
             Work::Gets => BlockOp::Get(lba),
             Work::Puts => BlockOp::Put(lba, done),
         }
+    }
+
+    /// Which of the leased blocks is the buffer of the operation behind the first `done` ones.
+    pub(crate) fn buffer(&self, done: u32) -> u32
+        requires { done < length self.now.operations }
+        ensures { result < self.now.need }
+    {
+        let _ = &self.count;
+        done
     }
 }

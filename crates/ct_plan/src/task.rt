@@ -25,6 +25,8 @@ pub struct Piece {
 pub enum PieceEnd {
     /// The plan is at its end.
     All,
+    /// A compare found a difference, at this byte of the data-out, from 0. It counts as made.
+    Miscompare(u32),
     ReadFault(u32),
     WriteFault(u32),
 }

@@ -1,6 +1,7 @@
--- What was made before this pass.
-use Rattle.std.proofs.Common.{◌<◌, ◌≤◌, ◌^◌, length, take}
-use Rattle.ct_plan.specs.Tasks.{IsReady, left}
+-- What was made before this pass, and that no difference was found.
+use Rattle.std.proofs.Common.{◌≡◌, ◌<◌, ◌≤◌, ◌^◌, length, take, None}
+use Rattle.ct_plan.specs.Cells.{performed}
+use Rattle.ct_plan.specs.Tasks.{IsReady, left, cells_of}
 use Rattle.ct_plan.specs.Pieces.{Makes, Uses}
 use Rattle.ct_plan.proofs.pieces.advance.Given as goal
 
@@ -10,6 +11,7 @@ invariant-loop-moved g l =
     let faults = g.B.Backend.faults in
     record {
       made : Makes l.out (take l.moved (left l.initial.t)) l.initial.t l.t (blocks l.initial.medium) (blocks l.medium);
+      even : (performed l.out (take l.moved (left l.initial.t)) (cells_of (blocks l.initial.medium) l.initial.t)).difference ≡ None;
       used : Uses l.initial.pool l.pool l.initial.t.lease;
       ready : IsReady (length l.out) (length (blocks l.medium)) l.pool l.t;
       later : faults l.initial.medium ≤ faults l.medium;

@@ -16,13 +16,3 @@ pub returns-in-Puts-clause-value : goal.returns-in-Puts-clause-value
 returns-in-Puts-clause-value c =
     let within = rw (← c.self.view_is) at c.requires in
     rw (← c.self.view_is, c.in-Puts.is) (puts_at c.self.inside.lba c.self.inside.count c.args.done (omega (arith, within, length-range c.self.inside.work c.self.inside.lba c.self.inside.count)))
-
-pub returns-in-Gets-clause-leased : goal.returns-in-Gets-clause-leased
-returns-in-Gets-clause-leased c =
-    let within = rw (← c.self.view_is) at c.requires in
-    rw (← c.self.view_is) (omega (arith, within, length-range c.self.inside.work c.self.inside.lba c.self.inside.count))
-
-pub returns-in-Puts-clause-leased : goal.returns-in-Puts-clause-leased
-returns-in-Puts-clause-leased c =
-    let within = rw (← c.self.view_is) at c.requires in
-    rw (← c.self.view_is) (omega (arith, within, length-range c.self.inside.work c.self.inside.lba c.self.inside.count))
