@@ -109,4 +109,7 @@ reply_moved control (Some offset) got = check_condition control 0xe 0x1d 0 (Some
 -- the reply where the medium failed an operation: UNRECOVERED READ ERROR or WRITE ERROR, with the LBA
 abbrev pub reply_failed : ControlState → BlockOp → Reply
 reply_failed control (operations.Get lba) = check_condition control 3 0x11 0 (Some lba)
+reply_failed control (operations.Look lba) = check_condition control 3 0x11 0 (Some lba)
 reply_failed control (operations.Put lba place) = check_condition control 3 0x0c 0 (Some lba)
+reply_failed control (operations.Zero lba) = check_condition control 3 0x0c 0 (Some lba)
+reply_failed control (operations.Compare lba place) = check_condition control 3 0x11 0 (Some lba)

@@ -13,4 +13,4 @@ pub use at_once::instant;
 pub use checks::{check, need, plan};
 pub use control::Control;
 pub use ended::Instant;
-pub use refusal::{Refusal, check_condition, failed, moved_reply};
+pub use refusal::{Refusal, check_condition, failed, miscompared, moved_reply};

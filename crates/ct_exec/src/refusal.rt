@@ -1,5 +1,5 @@
-ghost use Rattle.std.specs.Prelude.{◌≡◌, false};
-ghost use Rattle.ct_exec.specs.Executions.{good, check_condition, reply_failed};
+ghost use Rattle.std.specs.Prelude.{◌≡◌, false, []};
+ghost use Rattle.ct_exec.specs.Executions.{good, check_condition, reply_moved, reply_failed};
 ghost use Rattle.ct_exec.specs.Refusals.{refused_reply};
 
 use crate::control::Control;
@@ -74,7 +74,18 @@ pub fn failed(c: &Control, operation: BlockOp) -> Refusal
     ensures { refused_reply result ≡ reply_failed c.now operation }
 {
     match operation {
-        BlockOp::Get(lba) => check_condition(c, key::MEDIUM_ERROR, 0x11, 0, Some(lba)),
-        BlockOp::Put(lba, _) => check_condition(c, key::MEDIUM_ERROR, 0x0c, 0, Some(lba)),
+        BlockOp::Get(lba) | BlockOp::Look(lba) | BlockOp::Compare(lba, _) => {
+            check_condition(c, key::MEDIUM_ERROR, 0x11, 0, Some(lba))
+        }
+        BlockOp::Put(lba, _) | BlockOp::Zero(lba) => {
+            check_condition(c, key::MEDIUM_ERROR, 0x0c, 0, Some(lba))
+        }
     }
+}
+
+/// Why a command ended that found a difference at this byte of its data-out.
+pub fn miscompared(c: &Control, offset: u32) -> Refusal
+    ensures { refused_reply result ≡ reply_moved c.now (Some offset) [] }
+{
+    check_condition(c, key::MISCOMPARE, 0x1d, 0, Some(offset))
 }

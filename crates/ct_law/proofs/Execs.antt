@@ -8,7 +8,7 @@ use Rattle.ct_plan.specs.Cells.{Cells, Progress, after_all, performed}
 use Rattle.ct_book.specs.declared.work.Command.{Command}
 use Rattle.ct_exec.specs.Controls.{Disk}
 use Rattle.ct_exec.specs.Executions.{plan_in}
-use Rattle.ct_machine.specs.Acts.{tried}
+use Rattle.ct_plan.specs.Pieces.{tried}
 use Rattle.ct_law.proofs.Blocks.{cell, uses, puts, start, Like, perform_like, perform_elsewhere, perform_size, perform_on, perform_stopped, perform_done, joined, made_cells, performed_made, made_within, uses_front, uses_back, puts_front, puts_back}
 use Rattle.ct_law.proofs.Held.{Uses, Running}
 

@@ -24,7 +24,8 @@ use Rattle.ct_plan.specs.Cells.{Progress, performed, Cells as plan_cells}
 use Rattle.ct_exec.specs.Executions.{Execution, execute, refusal_of, plan_in, reply_moved, reply_failed}
 use Rattle.ct_machine.specs.States.{disk_of, task_of}
 use Rattle.ct_machine.specs.Events.{after, after_ended, after_cut, after_moved, cut_at as cut_from, ended_at, moved_at, moved_from, further, stops_with, staged}
-use Rattle.ct_machine.specs.Acts.{Turn, nothing, writes, replies, followed, tried, moving_on, failing, failing_if, moved_to, moving_from, clearing_all, ending_at_once, is_granted, beginning_at, beginning, numbers_of, blocked_by, beginning_unless, stepping_at, stepping, is_sent, Done}
+use Rattle.ct_plan.specs.Pieces.{tried}
+use Rattle.ct_machine.specs.Acts.{Turn, nothing, writes, replies, followed, moving_on, failing, failing_if, moved_to, moving_from, clearing_all, ending_at_once, is_granted, beginning_at, beginning, numbers_of, blocked_by, beginning_unless, stepping_at, stepping, is_sent, Done}
 use Rattle.ct_law.proofs.Tasks.{has_found}
 use Rattle.ct_law.proofs.Laws.{Laws, has_operations, IsOnce}
 use Rattle.ct_law.proofs.Commands.{no_difference}

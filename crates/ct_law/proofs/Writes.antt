@@ -18,7 +18,8 @@ use Rattle.ct_machine.specs.declared.act.Act.TheVariants as act
 use Rattle.ct_machine.specs.declared.act.Answer.TheVariants as answer
 use Rattle.ct_machine.specs.declared.act.Opening.{Opening}
 use Rattle.ct_machine.specs.States.{Stage, Waiting, Here, Granted, There, Over, Task, Message, State, task_of}
-use Rattle.ct_machine.specs.Acts.{Turn, nothing, followed, tried, moving_on, failing_if, moved_to, moving_from, is_granted, beginning_at, beginning, Done, next_number, has_room_for, arriving_at, arriving, blocked_by, beginning_unless, stepping_at, is_sent, stepping, delivering_first, messages_to, delivering, next_step, stepping_next, doing_next, doing, act_of}
+use Rattle.ct_plan.specs.Pieces.{tried}
+use Rattle.ct_machine.specs.Acts.{Turn, nothing, followed, moving_on, failing_if, moved_to, moving_from, is_granted, beginning_at, beginning, Done, next_number, has_room_for, arriving_at, arriving, blocked_by, beginning_unless, stepping_at, is_sent, stepping, delivering_first, messages_to, delivering, next_step, stepping_next, doing_next, doing, act_of}
 use Rattle.ct_machine.specs.Runs.{replay, IsAllowed}
 use Rattle.ct_machine.specs.Laws.{is_void, ActsWrite}
 use Rattle.ct_law.proofs.Blocks.{perform_done}

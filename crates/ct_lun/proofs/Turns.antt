@@ -20,7 +20,8 @@ use Rattle.ct_exec.specs.Executions.{good, reply_failed, plan_in}
 use Rattle.ct_machine.specs.declared.act.Answer.TheVariants as answer
 use Rattle.ct_machine.specs.States.{Stage, Task, State, at_stage, is_waiting, task_of, arrival_of}
 use Rattle.ct_machine.specs.Events.{after_events, is_cleared}
-use Rattle.ct_machine.specs.Acts.{Turn, followed, tried, moving_on, moved_to, failing, moving_from, ends, moved_answer, line_by, clearing, clearing_all}
+use Rattle.ct_plan.specs.Pieces.{tried}
+use Rattle.ct_machine.specs.Acts.{Turn, followed, moving_on, moved_to, failing, moving_from, ends, moved_answer, line_by, clearing, clearing_all}
 use Rattle.ct_lun.specs.Calls.{told, replied, moved_journal}
 use Rattle.ct_lun.proofs.Lists.{equal_number}
 

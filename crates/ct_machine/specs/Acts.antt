@@ -16,6 +16,7 @@ use Rattle.ct_tmf.specs.Reaches.{seeks}
 use Rattle.ct_plan.specs.declared.operation.BlockOp.{BlockOp}
 use Rattle.ct_plan.specs.Plans.{puts_among}
 use Rattle.ct_plan.specs.Cells.{performed}
+use Rattle.ct_plan.specs.Pieces.{tried}
 use Rattle.ct_matrix.specs.Queues.{blocker_of, next_ready_of}
 use Rattle.ct_book.specs.declared.work.Command.{Command}
 use Rattle.ct_book.specs.declared.work.Work.TheVariants as work
@@ -138,12 +139,6 @@ asking number ask s =
     else taking_up number ask s
 
 -- Moves
-
--- the operations that a command makes next: at most so many, and none from the one on that the medium fails, counted
--- from the first of them
-abbrev pub tried : List BlockOp → Option ℕ → List BlockOp
-tried operations None = operations
-tried operations (Some fault) = take fault operations
 
 abbrev pub moving_on : ℕ → ℕ → State → Turn
 moving_on number zero s = nothing s
