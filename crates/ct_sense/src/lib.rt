@@ -1,6 +1,7 @@
 //! Status and sense data: how a command ended, and why.
 #![tactic(auto)]
 
+pub mod code;
 pub mod key;
 mod laws;
 mod reader;
@@ -11,7 +12,7 @@ mod writer;
 pub use laws::one_value;
 pub use reader::read_sense;
 pub use reply::{Reply, Status};
-pub use sense::Sense;
+pub use sense::{Sense, SenseCode};
 pub use writer::sense_bytes;
 
 #[cfg(test)]
@@ -19,31 +20,15 @@ mod tests {
     use super::*;
     use ct_word::Bytes;
 
-    const INVALID: Sense = Sense {
-        key: key::ILLEGAL_REQUEST,
-        asc: 0x21,
-        ascq: 0x00,
-        info: None,
-    };
-
     fn forms() -> [(Sense, bool, &'static [u8]); 5] {
-        let protected = Sense::new(key::DATA_PROTECT, 0x27, 0x00);
-        let unready = Sense::new(key::NOT_READY, 0x04, 0x02);
-        let differs = Sense {
-            key: key::MISCOMPARE,
-            asc: 0x1d,
-            ascq: 0x00,
-            info: Some(0x0201),
-        };
-        let unread = Sense {
-            key: key::MEDIUM_ERROR,
-            asc: 0x11,
-            ascq: 0x00,
-            info: Some(0x1234_5678),
-        };
+        let outside = code::LBA_OUT_OF_RANGE.sense(None);
+        let differs = code::MISCOMPARE_DURING_VERIFY.sense(Some(0x0201));
+        let protected = code::WRITE_PROTECTED.sense(None);
+        let unready = code::INITIALIZING_COMMAND_REQUIRED.sense(None);
+        let unread = code::UNRECOVERED_READ_ERROR.sense(Some(0x1234_5678));
         [
             (
-                INVALID,
+                outside,
                 false,
                 b"\x70\0\x05\0\0\0\0\x0a\0\0\0\0\x21\0\0\0\0\0",
             ),
@@ -103,14 +88,15 @@ mod tests {
 
     #[test]
     fn holds_a_reply(rt: HostRuntime) {
+        let sense = code::INVALID_FIELD_IN_CDB.sense(None);
         let reply = Reply {
             status: Status::CheckCondition,
-            sense: Some(INVALID),
+            sense: Some(sense),
             descriptor: false,
             body: Bytes::new(rt.alloc()),
         };
         assert_eq!(rt; reply.status, Status::CheckCondition);
-        assert_eq!(rt; reply.sense, Some(INVALID));
+        assert_eq!(rt; reply.sense, Some(sense));
         assert!(rt; reply.body.is_empty());
     }
 }

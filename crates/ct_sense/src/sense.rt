@@ -1,4 +1,5 @@
 ghost use Rattle.std.specs.Prelude.{◌≡◌};
+ghost use Rattle.ct_sense.specs.Codes.{sense_of};
 
 /// Sense data (SPC-4, 4.5). Contracts say by `IsSense` that the key is below 16.
 #[derive(Clone, Copy, Debug, PartialEq, Eq)]
@@ -23,6 +24,31 @@ impl Sense {
             asc,
             ascq,
             info: None,
+        }
+    }
+}
+
+/// An additional sense code with the sense key that it comes with (SPC-4, 4.5).
+#[derive(Clone, Copy, Debug, PartialEq, Eq)]
+pub struct SenseCode {
+    /// SENSE KEY
+    pub key: u8,
+    /// ADDITIONAL SENSE CODE
+    pub asc: u8,
+    /// ADDITIONAL SENSE CODE QUALIFIER
+    pub ascq: u8,
+}
+
+impl SenseCode {
+    /// Sense data of this code.
+    pub fn sense(self, info: Option<u32>) -> Sense
+        ensures { result ≡ sense_of self info }
+    {
+        Sense {
+            key: self.key,
+            asc: self.asc,
+            ascq: self.ascq,
+            info,
         }
     }
 }

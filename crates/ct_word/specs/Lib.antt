@@ -4,3 +4,4 @@ pub mod Nexuses
 pub mod Kept
 pub mod Lends
 pub mod LendsBytes
+pub mod Causes

@@ -6,6 +6,7 @@ mod bytes;
 mod decimals;
 mod fields;
 mod laws;
+pub mod limit;
 mod names;
 mod nexus_set;
 mod reserve;
@@ -55,6 +56,7 @@ mod tests {
     fn holds_nexuses(rt: HostRuntime) {
         let last = Nexus { port: 15, init: 15 };
         let other = Nexus { port: 15, init: 14 };
+        assert!(rt; last.is_same(last) && !last.is_same(other));
         let mut set = NexusSet::open();
         assert!(rt; !set.has(last));
         set.add(last);

@@ -1,4 +1,5 @@
 ghost use Rattle.std.specs.Prelude.{◌≡◌};
+ghost use Rattle.ct_word.specs.Nexuses.{is_same_nexus};
 
 use std::alloc::{AllocError, AllocFailed};
 use std::marker::Model;
@@ -26,6 +27,14 @@ pub enum Ha {
 pub struct Nexus {
     pub port: u8,
     pub init: u8,
+}
+
+impl Nexus {
+    pub fn is_same(self, other: Nexus) -> bool
+        ensures { result ≡ is_same_nexus self other }
+    {
+        self.port == other.port && self.init == other.init
+    }
 }
 
 /// The number of a logical unit, 0 to 15.

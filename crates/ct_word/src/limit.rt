@@ -1,0 +1,43 @@
+//! The limits of the target, by name.
+
+/// Bytes of a block.
+pub const BLOCK_SIZE: usize = 512;
+
+/// The most blocks of a logical unit.
+pub const MOST_BLOCKS: u32 = 65_536;
+
+/// The most blocks that one command moves.
+pub const MOST_TRANSFER: u32 = 256;
+
+/// The most block operations of one step.
+pub const MOST_STEP: u32 = 65_536;
+
+/// Commands that a task set holds.
+pub const DEPTH: u32 = 64;
+
+/// Blocks of a pool.
+pub const POOL: u32 = 16_384;
+
+/// The most open task management functions of a logical unit.
+pub const MOST_FUNCTIONS: usize = 64;
+
+/// The most bytes of a script.
+pub const MOST_SCRIPT: usize = 8_388_608;
+
+/// The most lines of a script.
+pub const MOST_LINES: u32 = 65_536;
+
+/// The most commands of a script, each a `cmd` line.
+pub const MOST_COMMANDS: u64 = 64;
+
+/// The most bytes of a CDB in a script.
+pub const MOST_CDB: usize = 32;
+
+/// The most bytes of data-out of one command of a script.
+pub const MOST_DATA_OUT: u64 = 131_072;
+
+/// The most bytes of data-out of all commands of a script together.
+pub const MOST_DATA_OUT_TOGETHER: u64 = 134_217_728;
+
+/// The most block operations that all commands of a script ask for together.
+pub const MOST_OPERATIONS: u64 = 262_144;
