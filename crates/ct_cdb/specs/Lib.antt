@@ -1,6 +1,9 @@
+pub mod Few
+pub mod Fields
+pub mod Rows
 pub mod Forms
 pub mod Table
 pub mod Encoding
-pub mod Asked
-pub mod Index
-pub mod Performed
+pub mod Ranges
+pub mod Commands
+pub mod Profiles

@@ -1,10 +1,15 @@
-//! From bytes to a CDB. Each form is one function, which mirrors the form's row in specs/Forms.antt.
+//! From bytes to a CDB. The code byte names a row of the table, which is one function; rows stand by family of commands.
 
-ghost use Rattle.std.specs.Prelude.{◌≡◌, ◌≤◌, ◌<◌, ◌↔◌, [], ◌∷◌, ◌-◌, ◌/◌, length, slice_index, IsTrue, IsOk, IfErr};
-ghost use Rattle.ct_cdb.specs.Forms.{cdb_of, read_by, tried, control_field, read10_of, write10_of};
+mod blocks;
 
-use crate::op::{Cdb, CdbFault, Op};
-use ct_word::{u16_at, u32_at};
+ghost use Rattle.std.specs.Prelude.{◌≡◌, ◌<◌, ◌++◌, List, true, false, IfSome, IfErr, OnOk};
+ghost use Rattle.ct_cdb.specs.declared.op.Cdb.{Cdb as AnyCdb};
+ghost use Rattle.ct_cdb.specs.declared.row.Field.{Field as AnyField};
+ghost use Rattle.ct_cdb.specs.Forms.{cdb_of, row_of, read_by, tried};
+
+use crate::few::Few;
+use crate::op::{Cdb, CdbFault};
+use crate::row::{Field, Row, byte_at, control_field};
 
 /// Reads a CDB. Of several fields at fault the lowest is told.
 pub fn decode(bytes: &[u8]) -> Result<Cdb, CdbFault>
@@ -13,104 +18,90 @@ pub fn decode(bytes: &[u8]) -> Result<Cdb, CdbFault>
     if bytes.is_empty() {
         return Err(CdbFault::Empty);
     }
-    match bytes[0] {
-        0x28 => read10(bytes),
-        0x2a => write10(bytes),
-        _ => Err(CdbFault::BadOperation),
+    match row(bytes) {
+        Some(row) => read_by(&row, bytes),
+        None => Err(CdbFault::BadOperation),
     }
 }
 
-/// SBC-3, READ (10)
-#[tactic(auto, unfolding(crate::specs::Forms::read10_of))]
-fn read10(bytes: &[u8]) -> Result<Cdb, CdbFault>
-    ensures { result ≡ read_by (read10_of bytes.now) bytes.now }
+/// The row that the first byte names, if it names one.
+#[tactic(auto, unfolding(crate::specs::Forms::row_of))]
+fn row(bytes: &[u8]) -> Option<Row>
+    ensures row { result ≡ row_of bytes.now }
+    ensures some { IfSome result (λ row. 0 < row.size) }
 {
-    expect_length(bytes, 10)?;
-    accept_protect(bytes)?;
-    let count = u16_at(bytes, 7);
-    accept_count(u32::from(count), 7)?;
-    let lba = u32_at(bytes, 2);
-    with_control(bytes, Op::Read10 { lba, count })
+    match byte_at(bytes, 0) {
+        0x28 => Some(blocks::read_10(bytes)),
+        0x2a => Some(blocks::write_10(bytes)),
+        _ => None,
+    }
 }
 
-/// SBC-3, WRITE (10)
-#[tactic(auto, unfolding(crate::specs::Forms::write10_of))]
-fn write10(bytes: &[u8]) -> Result<Cdb, CdbFault>
-    ensures { result ≡ read_by (write10_of bytes.now) bytes.now }
+/// What the bytes are by a row.
+fn read_by(row: &Row, bytes: &[u8]) -> Result<Cdb, CdbFault>
+    requires { 0 < row.now.size }
+    ensures { result ≡ read_by row.now bytes.now }
 {
-    expect_length(bytes, 10)?;
-    accept_protect(bytes)?;
-    let count = u16_at(bytes, 7);
-    accept_count(u32::from(count), 7)?;
-    let lba = u32_at(bytes, 2);
-    with_control(bytes, Op::Write10 { lba, count })
+    let (want, got) = (row.size, bytes.len() as u64);
+    if got != u64::from(want) {
+        return Err(CdbFault::BadLength { want, got });
+    }
+    let control = control_field(want, bytes);
+    let cdb = Cdb {
+        op: row.op,
+        control: byte_at(bytes, usize::from(want - 1)),
+    };
+    accept_all(&row.refusable)?;
+    accept(&control)?;
+    Ok(cdb)
 }
 
-fn expect_length(bytes: &[u8], want: u8) -> Result<(), CdbFault>
-    ensures good { IsOk result ↔ (length bytes.now ≡ want) }
-    ensures bad { IfErr result (λ fault. fault ≡ CdbFault.BadLength want (length bytes.now)) }
+fn accept(field: &Field) -> Result<(), CdbFault>
+    ensures good { OnOk result (field.now.accepted ≡ true) }
+    ensures bad { IfErr result (λ fault. (field.now.accepted ≡ false) × (fault ≡ CdbFault.BadField field.now.byte)) }
 {
-    let got = bytes.len() as u64;
-    if got == u64::from(want) {
+    if field.accepted {
         Ok(())
     } else {
-        Err(CdbFault::BadLength { want, got })
+        Err(CdbFault::BadField { byte: field.byte })
     }
 }
 
-fn accept_if(accepted: bool, byte: u8) -> Result<(), CdbFault>
-    ensures good { IsOk result ↔ IsTrue accepted }
-    ensures bad { IfErr result (λ fault. fault ≡ CdbFault.BadField byte) }
+/// None of these fields is refused.
+fn accept_all(fields: &Few<Field>) -> Result<(), CdbFault>
+    ensures good { OnOk result ((more : List AnyField) (cdb : AnyCdb) → tried (fields.now ++ more) cdb ≡ tried more cdb) }
+    ensures bad { IfErr result (λ fault. (more : List AnyField) (cdb : AnyCdb) → tried (fields.now ++ more) cdb ≡ Err fault) }
 {
-    if accepted {
-        Ok(())
-    } else {
-        Err(CdbFault::BadField { byte })
+    match fields.items() {
+        (None, _) => Ok(()),
+        (Some(first), None) => accept(first),
+        (Some(first), Some(second)) => {
+            accept(first)?;
+            accept(second)
+        }
     }
-}
-
-/// Bits 7-5 of byte 1.
-fn accept_protect(bytes: &[u8]) -> Result<(), CdbFault>
-    requires { 1 < length bytes.now }
-    ensures good { IsOk result ↔ (slice_index bytes.now 1 / 32 ≡ 0) }
-    ensures bad { IfErr result (λ fault. fault ≡ CdbFault.BadField 1) }
-{
-    accept_if(bytes[1] / 32 == 0, 1)
-}
-
-/// A number of blocks, in the field that begins at `byte`.
-fn accept_count(count: u32, byte: u8) -> Result<(), CdbFault>
-    ensures good { IsOk result ↔ (count ≤ 256) }
-    ensures bad { IfErr result (λ fault. fault ≡ CdbFault.BadField byte) }
-{
-    accept_if(count <= 256, byte)
-}
-
-/// The last field of every form.
-fn with_control(bytes: &[u8], op: Op) -> Result<Cdb, CdbFault>
-    requires some { 0 < length bytes.now }
-    requires short { length bytes.now < 256 }
-    ensures { let size = length bytes.now in
-        result ≡ tried (control_field size bytes.now ∷ [])
-        (record { op = op; control = slice_index bytes.now (size - 1) }) }
-{
-    let last = bytes.len() - 1;
-    let control = bytes[last];
-    accept_if(control / 4 % 2 == 0, last as u8)?;
-    Ok(Cdb { op, control })
 }
 
 #[cfg(test)]
 mod tests {
     use super::*;
+    use crate::op::{Form, Op};
 
-    fn read(lba: u32, count: u16, control: u8) -> Result<Cdb, CdbFault> {
-        let op = Op::Read10 { lba, count };
+    fn read(lba: u64, count: u32, control: u8) -> Result<Cdb, CdbFault> {
+        let op = Op::Read {
+            form: Form::Ten,
+            lba,
+            count,
+        };
         Ok(Cdb { op, control })
     }
 
-    fn write(lba: u32, count: u16, control: u8) -> Result<Cdb, CdbFault> {
-        let op = Op::Write10 { lba, count };
+    fn write(lba: u64, count: u32, control: u8) -> Result<Cdb, CdbFault> {
+        let op = Op::Write {
+            form: Form::Ten,
+            lba,
+            count,
+        };
         Ok(Cdb { op, control })
     }
 

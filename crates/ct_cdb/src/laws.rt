@@ -2,9 +2,11 @@
 
 ghost use Rattle.std.specs.Prelude.{◌≡◌, ◌≢◌, ◌↔◌, ℕ, List, [], length};
 ghost use Rattle.ct_cdb.specs.declared.op.Cdb.{Cdb};
-ghost use Rattle.ct_cdb.specs.Forms.{cdb_of, form_of, accepted_cdb};
+ghost use Rattle.ct_cdb.specs.Forms.{cdb_of, row_of, accepted_cdb};
 ghost use Rattle.ct_cdb.specs.Table.{HasRow, IsAccepted, IsLowest, is_refused};
 ghost use Rattle.ct_cdb.specs.Encoding.{IsEncodable, bytes_of_cdb};
+ghost use Rattle.ct_cdb.specs.declared.op.Op.{Op};
+ghost use Rattle.ct_cdb.specs.Profiles.{profile_of, Fits};
 
 use crate::op::CdbFault;
 
@@ -12,19 +14,24 @@ use crate::op::CdbFault;
 pub fn table()
     ensures empty { (bytes : List ℕ) → (cdb_of bytes ≡ Err CdbFault.Empty) ↔ (bytes ≡ []) }
     ensures bad_operation { (bytes : List ℕ) →
-        (cdb_of bytes ≡ Err CdbFault.BadOperation) ↔ ((bytes ≢ []) × (form_of bytes ≡ None)) }
+        (cdb_of bytes ≡ Err CdbFault.BadOperation) ↔ ((bytes ≢ []) × (row_of bytes ≡ None)) }
     ensures bad_length { (bytes : List ℕ) (want got : ℕ) →
         (cdb_of bytes ≡ Err (CdbFault.BadLength want got)) ↔
-        HasRow bytes (λ form. (want ≡ form.size) × (got ≡ length bytes) × (got ≢ want)) }
+        HasRow bytes (λ row. (want ≡ row.size) × (got ≡ length bytes) × (got ≢ want)) }
     ensures bad_field { (bytes : List ℕ) (byte : ℕ) →
         (cdb_of bytes ≡ Err (CdbFault.BadField byte)) ↔
-        HasRow bytes (λ form. (length bytes ≡ form.size) × IsLowest (is_refused form bytes) byte) }
+        HasRow bytes (λ row. (length bytes ≡ row.size) × IsLowest (is_refused row bytes) byte) }
     ensures accepted { (bytes : List ℕ) (cdb : Cdb) →
         (cdb_of bytes ≡ Ok cdb) ↔
-        HasRow bytes (λ form. IsAccepted form bytes × (cdb ≡ accepted_cdb form bytes)) }
+        HasRow bytes (λ row. IsAccepted row bytes × (cdb ≡ accepted_cdb row bytes)) }
 {}
 
 /// What is encoded is read as it was.
 pub fn encoded_reads_back()
     ensures { (cdb : Cdb) → IsEncodable cdb → cdb_of (bytes_of_cdb cdb) ≡ Ok cdb }
+{}
+
+/// The columns of each command's row fit one another.
+pub fn rows_fit()
+    ensures { (op : Op) (out : List ℕ) (blocks : ℕ) → Fits (profile_of op out blocks) }
 {}

@@ -1,14 +1,21 @@
-//! Command descriptor blocks: the bytes in which a command is asked for, read and written.
+//! Commands, each one row of two tables: of the forms of its bytes, read and written, and of what it means.
 #![tactic(auto)]
 
+mod cdb_bytes;
 mod decoder;
 mod encoder;
+mod few;
 mod laws;
 mod op;
-mod performed;
+mod profile;
+mod ranges;
+mod row;
 
+pub use cdb_bytes::CdbBytes;
 pub use decoder::decode;
 pub use encoder::encode;
-pub use laws::{encoded_reads_back, table};
-pub use op::{Attr2, Cdb, CdbFault, Op, SerIdx, asked, index};
-pub use performed::{data_length, is_inside, is_performed};
+pub use few::Few;
+pub use laws::{encoded_reads_back, rows_fit, table};
+pub use op::{Attr2, Cdb, CdbFault, Form, Op, SerIdx};
+pub use profile::{Class, Phase, Profile, asked, index};
+pub use ranges::{LbaRange, Ranges};

@@ -1,0 +1,2 @@
+-- What commands mean, a row for each, by family.
+pub mod Blocks

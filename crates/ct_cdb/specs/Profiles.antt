@@ -1,0 +1,138 @@
+-- The row of a command, what is read off it, and what holds of every row.
+use Rattle.std.specs.Prelude.{◌≡◌, ℕ, ◌+◌, ◌*◌, ◌<◌, ◌≤◌, max, List, [], ◌∷◌, length, Bool, true, false, not, ◌&&◌, nat_lt, Result, Ok, Err, count_by}
+use Rattle.std.specs.List.{list_all, list_any}
+use Rattle.ct_word.specs.declared.limit.TheConstants.{BLOCK_SIZE}
+use Rattle.ct_cdb.specs.declared.op.Op.{Op}
+use Rattle.ct_cdb.specs.declared.op.Op.TheVariants.{Read, Write}
+use Rattle.ct_cdb.specs.declared.op.Cdb.{Cdb}
+use Rattle.ct_cdb.specs.declared.op.CdbFault.{CdbFault}
+use Rattle.ct_cdb.specs.declared.op.SerIdx.{SerIdx}
+use Rattle.ct_cdb.specs.declared.op.SerIdx.TheVariants.{Tur, Inq, RqS, Cap, Rd, Wr, Un, Sy, MSn, MSl, Res, Sta}
+use Rattle.ct_cdb.specs.declared.profile.Profile.{Profile}
+use Rattle.ct_cdb.specs.declared.profile.Class.TheVariants.{Always}
+use Rattle.ct_cdb.specs.declared.profile.Phase.{Phase}
+use Rattle.ct_cdb.specs.declared.profile.Phase.TheVariants as phase
+use Rattle.ct_cdb.specs.Ranges.{total, is_inside}
+use Rattle.ct_cdb.specs.Commands.Blocks.{read, write}
+
+-- the row of a command that came with this data-out, on a disk of so many blocks
+abbrev pub profile_of : Op → List ℕ → ℕ → Profile
+profile_of (Read form lba count) out blocks = read lba count
+profile_of (Write form lba count) out blocks = write lba count
+
+-- the row of bytes that are no CDB
+abbrev pub undecoded : Profile
+undecoded = record {
+  index = Inq;
+  class = Always;
+  reports_attention = false;
+  needs_started = false;
+  is_write = false;
+  data_out = 0;
+  data_in = 0;
+  need = 0;
+  ranges = [];
+  phases = [];
+}
+
+-- the row of bytes, by what they decode to
+abbrev pub profile_by : Result Cdb CdbFault → List ℕ → ℕ → Profile
+profile_by (Ok cdb) out blocks = profile_of cdb.op out blocks
+profile_by (Err fault) out blocks = undecoded
+
+-- the block operations of all phases
+abbrev pub operations : Profile → ℕ
+operations profile = length profile.phases * total profile.ranges
+
+-- neither so many bytes of data-out nor a disk of so many blocks refuses the command
+abbrev pub is_performed : ℕ → ℕ → Profile → Bool
+is_performed out blocks profile = not (nat_lt out profile.data_out) && list_all (is_inside blocks) profile.ranges
+
+-- the serialisation index of a command, the block operations that it asks for, and the room for its data-in: these columns
+-- depend neither on its data-out nor on the disk, but for a command whose data-out names its blocks, which asks for none
+abbrev pub index_of : Op → SerIdx
+index_of op = (profile_of op [] 0).index
+
+abbrev pub asked_of : Op → ℕ
+asked_of op = operations (profile_of op [] 0)
+
+abbrev pub room_of : Result Cdb CdbFault → ℕ
+room_of decoded = (profile_by decoded [] 0).data_in
+
+-- a phase reads blocks, or writes blocks
+abbrev pub reads : Phase → Bool
+reads phase.Get = true
+reads phase.Look = true
+reads phase.Put = false
+reads phase.PutSecondHalf = false
+reads phase.PutSame = false
+reads phase.Zero = false
+reads phase.Compare = true
+
+abbrev pub writes : Phase → Bool
+writes phase.Get = false
+writes phase.Look = false
+writes phase.Put = true
+writes phase.PutSecondHalf = true
+writes phase.PutSame = true
+writes phase.Zero = true
+writes phase.Compare = false
+
+-- it gives blocks to the initiator
+abbrev pub gives : Phase → Bool
+gives phase.Get = true
+gives phase.Look = false
+gives phase.Put = false
+gives phase.PutSecondHalf = false
+gives phase.PutSame = false
+gives phase.Zero = false
+gives phase.Compare = false
+
+-- the blocks of the data-out that it goes through, where it works on so many
+abbrev pub named_by : ℕ → Phase → ℕ
+named_by count phase.Get = 0
+named_by count phase.Look = 0
+named_by count phase.Put = count
+named_by count phase.PutSecondHalf = count + count
+named_by count phase.PutSame = 1
+named_by count phase.Zero = 0
+named_by count phase.Compare = count
+
+abbrev pub most_named : ℕ → List Phase → ℕ
+most_named count [] = 0
+most_named count (phase ∷ phases) = max (named_by count phase) (most_named count phases)
+
+-- how many of some phases give blocks
+abbrev pub giving : List Phase → ℕ
+giving phases = count_by gives phases
+
+-- the index that a row has goes with its phases: the table of conflicts lets commands of the index Rd pass one another, and
+-- those of Rd, Wr and Un alone move blocks
+abbrev pub has_no_phase : List Phase → Bool
+has_no_phase [] = true
+has_no_phase (phase ∷ phases) = false
+
+abbrev pub is_indexed : SerIdx → List Phase → Bool
+is_indexed Rd phases = not (list_any writes phases)
+is_indexed Wr phases = true
+is_indexed Un phases = true
+is_indexed Tur phases = has_no_phase phases
+is_indexed Inq phases = has_no_phase phases
+is_indexed RqS phases = has_no_phase phases
+is_indexed Cap phases = has_no_phase phases
+is_indexed Sy phases = has_no_phase phases
+is_indexed MSn phases = has_no_phase phases
+is_indexed MSl phases = has_no_phase phases
+is_indexed Res phases = has_no_phase phases
+is_indexed Sta phases = has_no_phase phases
+
+-- what the columns of a row have to do with one another
+pub record Fits (profile : Profile) : Type 0 where
+  -- the index is one of commands that do such phases
+  pub indexed : is_indexed profile.index profile.phases ≡ true
+  -- the data-out that is asked for has all blocks that the phases go through
+  pub covered : BLOCK_SIZE * most_named (total profile.ranges) profile.phases ≤ profile.data_out
+  -- what moves blocks needs a block of the pool
+  pub buffered : 0 < operations profile → 0 < profile.need
+  -- there is room for all blocks that are given
+  pub roomy : BLOCK_SIZE * (giving profile.phases * total profile.ranges) ≤ profile.data_in

@@ -1,0 +1,2 @@
+-- The rows of the table of CDB forms, by family of commands.
+pub mod Blocks

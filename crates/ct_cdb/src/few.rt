@@ -1,0 +1,72 @@
+ghost use Rattle.std.specs.Prelude.{◌≡◌, ◌≤◌, [], ◌∷◌, length};
+ghost use Rattle.std.specs.Option.{option_copied};
+
+use std::marker::Model;
+
+/// At most two items, in order. Contracts see a list.
+#[derive(Debug, Drop)]
+pub struct Few<T> {
+    first: Option<T>,
+    second: Option<T>,
+}
+
+impl<T> Model for Few<T> {
+    ghost use Rattle.std.specs.Prelude.{List};
+    ghost use Rattle.std.specs.Coded.{coded_list};
+    ghost use Rattle.ct_cdb.specs.Few.{few_items};
+
+    ghost Value = { List T };
+
+    ghost coded = { coded_list T.code };
+
+    ghost view = { λ f. few_items f.first f.second };
+}
+
+impl<T> Few<T> {
+    ghost use Rattle.ct_cdb.specs.Few.{few_items};
+
+    pub fn none() -> Few<T>
+        ensures { result ≡ [] }
+    {
+        Few {
+            first: None,
+            second: None,
+        }
+    }
+
+    pub fn one(item: T) -> Few<T>
+        ensures { result ≡ item ∷ [] }
+    {
+        Few {
+            first: Some(item),
+            second: None,
+        }
+    }
+
+    pub fn two(first: T, second: T) -> Few<T>
+        ensures { result ≡ first ∷ second ∷ [] }
+    {
+        Few {
+            first: Some(first),
+            second: Some(second),
+        }
+    }
+
+    /// The first item and the second, as far as there are any.
+    pub fn items(&self) -> (Option<&T>, Option<&T>)
+        ensures { few_items (option_copied result.0) (option_copied result.1) ≡ self.now }
+    {
+        (self.first.as_ref(), self.second.as_ref())
+    }
+
+    pub fn len(&self) -> usize
+        ensures len { result ≡ length self.now }
+        ensures few { result ≤ 2 }
+    {
+        match (&self.first, &self.second) {
+            (None, _) => 0,
+            (Some(_), None) => 1,
+            (Some(_), Some(_)) => 2,
+        }
+    }
+}

@@ -1,0 +1,164 @@
+//! What a command means, one row for each: all that decides how it is treated, but its bytes.
+
+mod blocks;
+
+ghost use Rattle.std.specs.Prelude.{◌≡◌};
+ghost use Rattle.ct_cdb.specs.Profiles.{profile_of, profile_by, undecoded, operations, index_of, asked_of, is_performed};
+
+use crate::few::Few;
+use crate::op::{Cdb, CdbFault, Op, SerIdx};
+use crate::ranges::Ranges;
+
+/// What a command does to the blocks of its ranges, one after another; a command does it in one or two phases.
+#[derive(Clone, Copy, Debug, PartialEq, Eq)]
+pub enum Phase {
+    /// They are given to the initiator.
+    Get,
+    /// They are read, and given to nobody.
+    Look,
+    /// The blocks of the data-out take their places.
+    Put,
+    /// The blocks of the data-out behind as many take their places.
+    PutSecondHalf,
+    /// The first block of the data-out takes the place of each.
+    PutSame,
+    /// A block of zeros takes the place of each.
+    Zero,
+    /// They are compared with the blocks of the data-out.
+    Compare,
+}
+
+/// The class of a command, by which a persistent reservation lets it through (SPC-4, PERSISTENT RESERVE OUT).
+#[derive(Clone, Copy, Debug, PartialEq, Eq)]
+pub enum Class {
+    Always,
+    Reading,
+    Writing,
+}
+
+/// What a command means.
+#[derive(Debug, Drop)]
+pub struct Profile {
+    pub index: SerIdx,
+    pub class: Class,
+    /// It ends with a unit attention of its nexus, where there is one (SAM-5, 5.14).
+    pub reports_attention: bool,
+    /// A stopped unit refuses it (SBC-3, START STOP UNIT).
+    pub needs_started: bool,
+    /// Write protection refuses it (SPC-4, SWP of the Control mode page).
+    pub is_write: bool,
+    /// The bytes of data-out that it asks for.
+    pub data_out: u64,
+    /// The most bytes of data-in that it returns.
+    pub data_in: u64,
+    /// The blocks of the pool that it needs while it moves.
+    pub need: u32,
+    pub ranges: Ranges,
+    pub phases: Few<Phase>,
+}
+
+impl Profile {
+    /// The row of a command that came with this data-out, on a disk of so many blocks.
+    pub fn of(op: &Op, out: &[u8], blocks: u32) -> Profile
+        ensures { result ≡ profile_of op.now out.now blocks }
+    {
+        let (_out, _blocks) = (out, blocks);
+        match *op {
+            Op::Read { lba, count, .. } => blocks::read(lba, count),
+            Op::Write { lba, count, .. } => blocks::write(lba, count),
+        }
+    }
+
+    /// The same for bytes, by what they decode to.
+    pub fn by(decoded: &Result<Cdb, CdbFault>, out: &[u8], blocks: u32) -> Profile
+        ensures { result ≡ profile_by decoded.now out.now blocks }
+    {
+        match decoded {
+            Ok(cdb) => Profile::of(&cdb.op, out, blocks),
+            Err(_) => undecoded(),
+        }
+    }
+
+    /// The block operations of all its phases.
+    pub fn operations(&self) -> u64
+        ensures { result ≡ operations self.now }
+    {
+        self.phases.len() as u64 * self.ranges.total()
+    }
+
+    /// Neither so many bytes of data-out nor a disk of so many blocks refuses it.
+    pub fn is_performed(&self, out: usize, blocks: u32) -> bool
+        ensures { result ≡ is_performed out blocks self.now }
+    {
+        self.data_out <= out as u64 && self.ranges.are_inside(blocks)
+    }
+}
+
+// The row of bytes that are no CDB.
+fn undecoded() -> Profile
+    ensures { result ≡ undecoded }
+{
+    Profile {
+        index: SerIdx::Inq,
+        class: Class::Always,
+        reports_attention: false,
+        needs_started: false,
+        is_write: false,
+        data_out: 0,
+        data_in: 0,
+        need: 0,
+        ranges: Ranges::none(),
+        phases: Few::none(),
+    }
+}
+
+/// The serialisation index of a command.
+pub fn index(op: &Op) -> SerIdx
+    ensures { result ≡ index_of op.now }
+{
+    Profile::of(op, &[], 0).index
+}
+
+/// The block operations that a command asks for, whether it is refused later or not.
+pub fn asked(op: &Op) -> u64
+    ensures { result ≡ asked_of op.now }
+{
+    Profile::of(op, &[], 0).operations()
+}
+
+#[cfg(test)]
+mod tests {
+    use super::*;
+    use crate::op::Form;
+
+    const READ: Op = Op::Read {
+        form: Form::Ten,
+        lba: 3,
+        count: 2,
+    };
+
+    const WRITE: Op = Op::Write {
+        form: Form::Ten,
+        lba: 3,
+        count: 2,
+    };
+
+    #[test]
+    fn asks_for_each_block(rt: HostRuntime) {
+        assert_eq!(rt; (asked(&READ), asked(&WRITE)), (2, 2));
+        assert_eq!(rt; (index(&READ), index(&WRITE)), (SerIdx::Rd, SerIdx::Wr));
+    }
+
+    #[test]
+    fn asks_for_data_and_blocks(rt: HostRuntime) {
+        let read = Profile::of(&READ, &[], 5);
+        let write = Profile::of(&WRITE, &[], 5);
+        assert_eq!(rt; (read.data_out, write.data_out), (0, 1024));
+        assert_eq!(rt; (read.data_in, write.data_in), (1024, 0));
+        assert!(rt; read.is_performed(0, 5) && !read.is_performed(0, 4));
+        assert!(rt; write.is_performed(1024, 5) && !write.is_performed(1023, 5));
+        assert_eq!(rt; (read.class, write.class), (Class::Reading, Class::Writing));
+        let none = Profile::by(&Err(CdbFault::Empty), &[], 5);
+        assert_eq!(rt; (none.index, none.operations()), (SerIdx::Inq, 0));
+    }
+}

@@ -1,0 +1,100 @@
+ghost use Rattle.std.specs.Prelude.{◌≡◌, ◌<◌, ◌^◌, [], ◌∷◌, slice_get, true};
+ghost use Rattle.std.specs.List.{list_all};
+ghost use Rattle.ct_cdb.specs.Ranges.{total, numbers_of, is_inside};
+
+use std::marker::Model;
+
+/// A range of blocks, from an LBA on.
+#[derive(Clone, Copy, Debug, PartialEq, Eq)]
+pub struct LbaRange {
+    pub lba: u64,
+    pub count: u32,
+}
+
+/// The ranges of blocks that a command names, in order, of fixed size. Contracts see a list.
+#[derive(Debug, Drop)]
+pub struct Ranges {
+    only: Option<LbaRange>,
+}
+
+impl Model for Ranges {
+    ghost use Rattle.std.specs.Prelude.{List};
+    ghost use Rattle.std.specs.Option.{option_to_list};
+    ghost use Rattle.ct_cdb.specs.declared.ranges.LbaRange.{LbaRange};
+
+    ghost Value = { List LbaRange };
+
+    ghost view = { λ r. option_to_list r.only };
+}
+
+impl Ranges {
+    pub fn none() -> Ranges
+        ensures { result ≡ [] }
+    {
+        Ranges { only: None }
+    }
+
+    pub fn one(lba: u64, count: u32) -> Ranges
+        ensures { result ≡ record { lba = lba; count = count } ∷ [] }
+    {
+        Ranges {
+            only: Some(LbaRange { lba, count }),
+        }
+    }
+
+    /// The ranges, in order.
+    pub fn as_slice(&self) -> &[LbaRange]
+        ensures ranges { result.now ≡ self.now }
+    {
+        self.only.as_slice()
+    }
+
+    /// How many blocks there are.
+    pub fn total(&self) -> u64
+        ensures total { result ≡ total self.now }
+        ensures small { result < 2 ^ 32 }
+    {
+        match self.only {
+            Some(range) => count_of(range),
+            None => 0,
+        }
+    }
+
+    /// Every range is inside a disk of so many blocks, an empty one too.
+    pub fn are_inside(&self, blocks: u32) -> bool
+        ensures { result ≡ list_all (is_inside blocks) self.now }
+    {
+        match self.only {
+            Some(range) => is_inside(range, blocks),
+            None => true,
+        }
+    }
+
+    /// The LBA of a block by its place in all of the ranges, from 0.
+    pub fn lba_at(&self, place: u64) -> u64
+        requires within { place < total self.now }
+        requires inside { list_all (is_inside (2 ^ 32)) self.now ≡ true }
+        ensures { slice_get (numbers_of self.now) place ≡ Some result }
+    {
+        match self.only {
+            Some(range) => range.lba + place,
+            None => place,
+        }
+    }
+}
+
+fn count_of(range: LbaRange) -> u64
+    ensures count { result ≡ range.count }
+    ensures small { result < 2 ^ 32 }
+{
+    u64::from(range.count)
+}
+
+fn is_inside(range: LbaRange, blocks: u32) -> bool
+    ensures { result ≡ is_inside blocks range }
+{
+    match range.lba.checked_add(u64::from(range.count)) {
+        Some(end) => end <= u64::from(blocks),
+        None => false,
+    }
+}
