@@ -1,7 +1,8 @@
-ghost use Rattle.std.specs.Prelude.{◌≡◌, ◌<◌, ◌^◌, [], ◌∷◌, slice_get, true};
+ghost use Rattle.std.specs.Prelude.{◌≡◌, ◌<◌, ◌≤◌, ◌^◌, [], ◌∷◌, length, slice_get, true};
 ghost use Rattle.std.specs.List.{list_all};
 ghost use Rattle.ct_cdb.specs.Ranges.{total, numbers_of, is_inside};
 
+use ct_word::limit::{MOST_BLOCKS, MOST_RANGES};
 use std::marker::Model;
 
 /// A range of blocks, from an LBA on.
@@ -52,7 +53,8 @@ impl Ranges {
     /// How many blocks there are.
     pub fn total(&self) -> u64
         ensures total { result ≡ total self.now }
-        ensures small { result < 2 ^ 32 }
+        ensures small { result < 2 ^ 38 }
+        ensures few { length self.now ≤ MOST_RANGES }
     {
         match self.only {
             Some(range) => count_of(range),
@@ -71,14 +73,17 @@ impl Ranges {
     }
 
     /// The LBA of a block by its place in all of the ranges, from 0.
-    pub fn lba_at(&self, place: u64) -> u64
+    pub fn lba_at(&self, place: u32) -> u32
         requires within { place < total self.now }
-        requires inside { list_all (is_inside (2 ^ 32)) self.now ≡ true }
+        requires inside { list_all (is_inside MOST_BLOCKS) self.now ≡ true }
         ensures { slice_get (numbers_of self.now) place ≡ Some result }
     {
         match self.only {
-            Some(range) => range.lba + place,
-            None => place,
+            Some(range) => {
+                let lba = range.lba + u64::from(place);
+                lba as u32
+            }
+            None => unreachable!(),
         }
     }
 }

@@ -1,5 +1,5 @@
 pub mod Plans
-pub mod Ranges
+pub mod PlanStates
 pub mod Cells
 pub mod Effects
 pub mod Tasks

@@ -1,37 +1,48 @@
--- The plan of a command: its block operations, in the order in which they are made (SBC-3, READ (10) and WRITE (10)).
-use Rattle.std.specs.Prelude.{ℕ, zero, suc, ◌+◌, List, [], ◌∷◌, Bool, true, false, if◌then◌else◌}
-use Rattle.ct_cdb.specs.declared.op.Op.{Op}
-use Rattle.ct_cdb.specs.declared.op.Op.TheVariants.{Read10, Write10}
-use Rattle.ct_cdb.specs.Performed.{is_performed}
+-- The plan of a command: its block operations, in the order in which they are made. It is read off the command's row.
+use Rattle.std.specs.Prelude.{ℕ, zero, suc, ◌+◌, List, [], ◌∷◌, ◌++◌, Bool, true, false, if◌then◌else◌}
+use Rattle.ct_cdb.specs.declared.profile.Phase.{Phase}
+use Rattle.ct_cdb.specs.declared.profile.Phase.TheVariants as phase
+use Rattle.ct_cdb.specs.declared.profile.Profile.{Profile}
+use Rattle.ct_cdb.specs.declared.ranges.LbaRange.{LbaRange}
+use Rattle.ct_cdb.specs.Ranges.{total, numbers_of}
+use Rattle.ct_cdb.specs.Profiles.{is_performed}
 use Rattle.ct_plan.specs.declared.operation.BlockOp.{BlockOp}
 use Rattle.ct_plan.specs.declared.operation.BlockOp.TheVariants as operations
 
--- the blocks of a range are got, one after another
-abbrev pub gets : ℕ → ℕ → List BlockOp
-gets lba zero = []
-gets lba (suc count) = operations.Get lba ∷ gets (lba + 1) count
+-- what a phase on so many blocks does to the block at a place among them, which has this LBA
+abbrev pub operation_of : Phase → ℕ → ℕ → ℕ → BlockOp
+operation_of phase.Get count place lba = operations.Get lba
+operation_of phase.Look count place lba = operations.Look lba
+operation_of phase.Put count place lba = operations.Put lba place
+operation_of phase.PutSecondHalf count place lba = operations.Put lba (count + place)
+operation_of phase.PutSame count place lba = operations.Put lba 0
+operation_of phase.Zero count place lba = operations.Zero lba
+operation_of phase.Compare count place lba = operations.Compare lba place
 
--- the blocks of a range are put, from this block of the data-out on
-abbrev pub puts : ℕ → ℕ → ℕ → List BlockOp
-puts lba place zero = []
-puts lba place (suc count) = operations.Put lba place ∷ puts (lba + 1) (place + 1) count
+-- the operations of a phase on these of its blocks, of which the first stands at this place
+abbrev pub operations_from : Phase → ℕ → ℕ → List ℕ → List BlockOp
+operations_from phase count place [] = []
+operations_from phase count place (lba ∷ lbas) = operation_of phase count place lba ∷ operations_from phase count (place + 1) lbas
 
--- what a command that nothing refuses does
-abbrev pub operations_of : Op → List BlockOp
-operations_of (Read10 lba count) = gets lba count
-operations_of (Write10 lba count) = puts lba 0 count
+abbrev pub operations_in : Phase → List LbaRange → List BlockOp
+operations_in phase ranges = operations_from phase (total ranges) 0 (numbers_of ranges)
 
--- the blocks of the pool that it needs meanwhile
-abbrev pub blocks_needed : Op → ℕ
-blocks_needed (Read10 lba count) = count
-blocks_needed (Write10 lba count) = count
+-- phases, one after another, each on all blocks of the ranges
+abbrev pub planned : List Phase → List LbaRange → List BlockOp
+planned [] ranges = []
+planned (phase ∷ phases) ranges = operations_in phase ranges ++ planned phases ranges
 
 -- the plan of a command with so many bytes of data-out, on a disk of so many blocks
-unfoldable pub plan_of : ℕ → ℕ → Op → List BlockOp
-plan_of out blocks op = if is_performed out blocks op then operations_of op else []
+unfoldable pub plan_of : ℕ → ℕ → Profile → List BlockOp
+plan_of out blocks profile = if is_performed out blocks profile then planned profile.phases profile.ranges else []
 
-unfoldable pub need_of : ℕ → ℕ → Op → ℕ
-need_of out blocks op = if is_performed out blocks op then blocks_needed op else 0
+-- the blocks of the pool that operations need of those that a row asks for: none where there is no operation
+abbrev pub needed : List BlockOp → ℕ → ℕ
+needed [] need = 0
+needed (operation ∷ others) need = need
+
+unfoldable pub need_of : ℕ → ℕ → Profile → ℕ
+need_of out blocks profile = needed (plan_of out blocks profile) profile.need
 
 -- it changes a block
 abbrev pub is_put : BlockOp → Bool

@@ -1,66 +1,71 @@
-ghost use Rattle.std.specs.Prelude.{◌≡◌, ◌+◌, ◌<◌, ◌≤◌, length, take, slice_get, Some};
-ghost use Rattle.ct_plan.specs.Plans.{plan_of, need_of, puts_among};
+ghost use Rattle.std.specs.Prelude.{◌≡◌, ◌^◌, ◌<◌, ◌≤◌, length, take, slice_get, Some};
+ghost use Rattle.std.specs.Option.{option_copied};
+ghost use Rattle.ct_cdb.specs.Profiles.{Fits, profile_of};
+ghost use Rattle.ct_plan.specs.Plans.{operation_of, plan_of, need_of, puts_among, puts_in};
 ghost use Rattle.ct_plan.specs.Tasks.{IsTold};
 
 use crate::operation::BlockOp;
-use ct_cdb::{Op, is_performed};
+use ct_cdb::{Few, Op, Phase, Profile, Ranges, rows_fit};
+use ct_word::limit::MOST_BLOCKS;
 use std::marker::Model;
-
-/// What a range of blocks is for.
-#[derive(Clone, Copy, Debug, PartialEq, Eq)]
-enum Work {
-    Gets,
-    Puts,
-}
 
 /// The block operations of a command, of fixed size, as contracts see it: a list, and the blocks of the pool that it needs.
 #[derive(Debug, Drop)]
 pub struct Plan {
-    work: Work,
-    lba: u32,
+    phases: Few<Phase>,
+    ranges: Ranges,
+    /// How many blocks the ranges have.
     count: u32,
+    need: u32,
 }
 
 impl Model for Plan {
-    ghost use Rattle.std.specs.Prelude.{◌+◌, ◌≤◌, ◌^◌};
-    ghost use Rattle.ct_plan.specs.Ranges.{PlanState};
+    ghost use Rattle.ct_plan.specs.PlanStates.{PlanState};
 
     ghost Value = { PlanState };
 
-    ghost use Rattle.ct_plan.specs.Ranges.{range_operations};
+    ghost use Rattle.ct_plan.specs.PlanStates.{IsPlan};
+    ghost use Rattle.ct_plan.specs.Plans.{planned};
 
-    ghost view = { λ p. record { operations = range_operations p.work p.lba p.count; need = p.count } };
+    ghost view = { λ p. record { operations = planned p.phases p.ranges; need = p.need } };
 
-    ghost invariant = { λ p. p.lba + p.count ≤ 65536 };
+    ghost invariant = { λ p. IsPlan p.phases p.ranges p.count p.need };
 }
 
 impl Plan {
     /// The plan of a command with this data-out, on a disk of so many blocks, 1 to 65,536. It is empty where the data-out
-    /// is too short or the range isn't inside the disk.
-    #[tactic(auto, unfolding(crate::specs::Plans::plan_of, crate::specs::Plans::need_of))]
+    /// is too short or a range isn't inside the disk.
     pub fn of(op: &Op, out: &[u8], blocks: u32) -> Plan
-        requires { blocks ≤ 65536 }
-        ensures operations { result.operations ≡ plan_of (length out.now) blocks op.now }
-        ensures need { result.need ≡ need_of (length out.now) blocks op.now }
+        requires { blocks ≤ MOST_BLOCKS }
+        ensures operations { result.operations ≡ plan_of (length out.now) blocks (profile_of op.now out.now blocks) }
+        ensures need { result.need ≡ need_of (length out.now) blocks (profile_of op.now out.now blocks) }
     {
-        if !is_performed(op, out.len(), blocks) {
+        rows_fit();
+        Plan::by(Profile::of(op, out, blocks), out.len(), blocks)
+    }
+
+    /// The plan of a command with this row and so many bytes of data-out.
+    #[tactic(auto, unfolding(crate::specs::Plans::plan_of, crate::specs::Plans::need_of))]
+    pub fn by(profile: Profile, out: usize, blocks: u32) -> Plan
+        requires few { blocks ≤ MOST_BLOCKS }
+        requires fits { Fits profile }
+        ensures operations { result.operations ≡ plan_of out blocks profile }
+        ensures need { result.need ≡ need_of out blocks profile }
+    {
+        if profile.operations() == 0 || !profile.is_performed(out, blocks) {
             return Plan {
-                work: Work::Gets,
-                lba: 0,
+                phases: Few::none(),
+                ranges: Ranges::none(),
                 count: 0,
+                need: 0,
             };
         }
-        match *op {
-            Op::Read10 { lba, count } => Plan {
-                work: Work::Gets,
-                lba,
-                count: u32::from(count),
-            },
-            Op::Write10 { lba, count } => Plan {
-                work: Work::Puts,
-                lba,
-                count: u32::from(count),
-            },
+        let count = profile.ranges.total() as u32;
+        Plan {
+            phases: profile.phases,
+            ranges: profile.ranges,
+            count,
+            need: profile.need,
         }
     }
 
@@ -68,24 +73,23 @@ impl Plan {
     pub fn length(&self) -> u32
         ensures { result ≡ length self.now.operations }
     {
-        self.count
+        self.phases.len() as u32 * self.count
     }
 
     /// How many blocks of the pool a command needs meanwhile.
     pub fn need(&self) -> u32
         ensures { result ≡ self.now.need }
     {
-        self.count
+        self.need
     }
 
     /// How many of the first `done` operations are puts.
     pub fn writes_done(&self, done: u32) -> u32
         ensures { result ≡ puts_among (take done self.now.operations) }
     {
-        match self.work {
-            Work::Gets => 0,
-            Work::Puts => done.min(self.count),
-        }
+        let (first, second) = self.phases.items();
+        let behind = done.saturating_sub(self.count);
+        puts_in(first, done.min(self.count)) + puts_in(second, behind.min(self.count))
     }
 
     /// The operation behind the first `done` ones.
@@ -94,10 +98,15 @@ impl Plan {
         ensures value { slice_get self.now.operations done ≡ Some result }
         ensures told { IsTold result }
     {
-        let lba = self.lba + done;
-        match self.work {
-            Work::Gets => BlockOp::Get(lba),
-            Work::Puts => BlockOp::Put(lba, done),
+        match self.phases.items() {
+            (Some(first), _) if done < self.count => {
+                operation_of(*first, self.count, done, self.ranges.lba_at(done))
+            }
+            (Some(_), Some(second)) => {
+                let place = done - self.count;
+                operation_of(*second, self.count, place, self.ranges.lba_at(place))
+            }
+            _ => unreachable!(),
         }
     }
 
@@ -106,7 +115,39 @@ impl Plan {
         requires { done < length self.now.operations }
         ensures { result < self.now.need }
     {
-        let _ = &self.count;
-        done
+        let place = if done < self.count {
+            done
+        } else {
+            done - self.count
+        };
+        place.min(self.need - 1)
+    }
+}
+
+// What a phase on so many blocks does to the block at a place among them.
+fn operation_of(phase: Phase, count: u32, place: u32, lba: u32) -> BlockOp
+    requires within { place < count }
+    requires few { count ≤ 2 ^ 22 }
+    ensures operation { result ≡ operation_of phase count place lba }
+    ensures told { IsTold result }
+{
+    match phase {
+        Phase::Get => BlockOp::Get(lba),
+        Phase::Look => BlockOp::Look(lba),
+        Phase::Put => BlockOp::Put(lba, place),
+        Phase::PutSecondHalf => BlockOp::Put(lba, count + place),
+        Phase::PutSame => BlockOp::Put(lba, 0),
+        Phase::Zero => BlockOp::Zero(lba),
+        Phase::Compare => BlockOp::Compare(lba, place),
+    }
+}
+
+// The puts among so many operations of a phase.
+fn puts_in(phase: Option<&Phase>, made: u32) -> u32
+    ensures { result ≡ puts_in (option_copied phase) made }
+{
+    match phase {
+        Some(Phase::Put | Phase::PutSecondHalf | Phase::PutSame | Phase::Zero) => made,
+        Some(Phase::Get | Phase::Look | Phase::Compare) | None => 0,
     }
 }

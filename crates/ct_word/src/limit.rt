@@ -9,6 +9,9 @@ pub const MOST_BLOCKS: u32 = 65_536;
 /// The most blocks that one command moves.
 pub const MOST_TRANSFER: u32 = 256;
 
+/// The most ranges of blocks that one command names.
+pub const MOST_RANGES: usize = 64;
+
 /// The most block operations of one step.
 pub const MOST_STEP: u32 = 65_536;
 
