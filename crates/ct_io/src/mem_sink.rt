@@ -1,6 +1,6 @@
 ghost use Rattle.std.specs.Prelude.{◌≡◌, ℕ, ◌<◌, ◌≤◌, [], Some, max, length, IfOk, IsOk, OnOk, OnErr};
 ghost use Rattle.std.specs.Io.KnownBytes.{WriteAppends};
-ghost use Rattle.ct_io.specs.Causes.{HasCause};
+ghost use Rattle.ct_word.specs.Causes.{HasCause, end_of_u64};
 ghost use Rattle.ct_io.specs.Memory.{WritesMemory};
 
 use crate::call_log::CallLog;
@@ -34,7 +34,12 @@ impl MemSink {
     /// The calls with the numbers in `fails`, from 0, fail.
     pub fn new(most: usize, fails: Vec<u64>) -> MemSink
         requires { 1 ≤ most }
-        ensures { result ≡ record { held = []; most = most; room = 0; calls = record { fails = fails.items; made = 0; faults = 0 } } }
+        ensures { result ≡ record {
+          held = [];
+          most = most;
+          room = 0;
+          calls = record { fails = fails.items; made = 0; faults = 0 };
+        } }
     {
         let alloc = *fails.allocator();
         MemSink {
@@ -73,7 +78,7 @@ impl Sink for MemSink {
         requires { 0 < length piece.now }
         ensures taken { IfOk result (λ n. (0 < n) × (n ≤ length piece.now)) }
         ensures bytes { WriteAppends (Some self.old.held) (Some self.new.held) result piece.now }
-        ensures cause { HasCause self.old.calls.faults self.new.calls.faults result }
+        ensures cause { HasCause end_of_u64 self.old.calls.faults self.new.calls.faults result }
         ensures exact { WritesMemory self.old self.new piece.now result }
     {
         let is_listed = self.log.begin_call();

@@ -1,6 +1,6 @@
 ghost use Rattle.std.specs.Prelude.{◌≡◌, ℕ, ◌<◌, ◌≤◌, ◌++◌, Some, min, length, take, drop, IfOk};
 ghost use Rattle.std.specs.Io.KnownBytes.{ReadConsumes};
-ghost use Rattle.ct_io.specs.Causes.{HasCause};
+ghost use Rattle.ct_word.specs.Causes.{HasCause, end_of_u64};
 ghost use Rattle.ct_io.specs.Memory.{ReadsMemory};
 
 use crate::call_log::CallLog;
@@ -33,7 +33,11 @@ impl MemSource {
     /// The calls with the numbers in `fails`, from 0, fail.
     pub fn new(bytes: Vec<u8>, most: usize, fails: Vec<u64>) -> MemSource
         requires { 1 ≤ most }
-        ensures { result ≡ record { left = bytes.items; most = most; calls = record { fails = fails.items; made = 0; faults = 0 } } }
+        ensures { result ≡ record {
+          left = bytes.items;
+          most = most;
+          calls = record { fails = fails.items; made = 0; faults = 0 };
+        } }
     {
         MemSource {
             bytes,
@@ -53,7 +57,7 @@ impl Source for MemSource {
         requires { 0 < length into.old }
         ensures bound { IfOk result (λ n. n ≤ length into.new) }
         ensures bytes { ReadConsumes (Some self.old.left) (Some self.new.left) result into.new }
-        ensures cause { HasCause self.old.calls.faults self.new.calls.faults result }
+        ensures cause { HasCause end_of_u64 self.old.calls.faults self.new.calls.faults result }
         ensures exact { ReadsMemory self.old self.new into.old into.new result }
     {
         if self.log.begin_call() {

@@ -1,6 +1,6 @@
 ghost use Rattle.std.specs.Prelude.{◌≡◌, ℕ, List, Option, ◌<◌, ◌≤◌, length, IfOk};
 ghost use Rattle.std.specs.Io.KnownBytes.{WriteAppends};
-ghost use Rattle.ct_io.specs.Causes.{HasCause};
+ghost use Rattle.ct_word.specs.Causes.{HasCause, end_of_u64};
 
 use ct_word::Failed;
 
@@ -18,5 +18,5 @@ pub trait Sink {
         requires { 0 < length piece.now }
         ensures taken { IfOk result (λ n. (0 < n) × (n ≤ length piece.now)) }
         ensures bytes { WriteAppends (held self.old) (held self.new) result piece.now }
-        ensures cause { HasCause (faults self.old) (faults self.new) result };
+        ensures cause { HasCause end_of_u64 (faults self.old) (faults self.new) result };
 }

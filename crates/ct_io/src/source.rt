@@ -1,6 +1,6 @@
 ghost use Rattle.std.specs.Prelude.{◌≡◌, ℕ, List, Option, ◌<◌, ◌≤◌, length, IfOk};
 ghost use Rattle.std.specs.Io.KnownBytes.{ReadConsumes};
-ghost use Rattle.ct_io.specs.Causes.{HasCause};
+ghost use Rattle.ct_word.specs.Causes.{HasCause, end_of_u64};
 
 use ct_word::Failed;
 
@@ -18,5 +18,5 @@ pub trait Source {
         requires { 0 < length into.old }
         ensures bound { IfOk result (λ n. n ≤ length into.new) }
         ensures bytes { ReadConsumes (left self.old) (left self.new) result into.new }
-        ensures cause { HasCause (faults self.old) (faults self.new) result };
+        ensures cause { HasCause end_of_u64 (faults self.old) (faults self.new) result };
 }

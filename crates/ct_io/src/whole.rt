@@ -2,7 +2,7 @@
 
 ghost use Rattle.std.specs.Prelude.{◌≡◌, ℕ, List, ◌+◌, ◌<◌, ◌≤◌, length, take, IfOk, IfErr, OnOk, OnErr};
 ghost use Rattle.std.specs.Io.KnownBytes.{Consumes, Appends, ReadConsumes};
-ghost use Rattle.ct_io.specs.Causes.{HasCause, Rose};
+ghost use Rattle.ct_word.specs.Causes.{HasCause, Rose, end_of_u64};
 ghost use Rattle.ct_io.specs.declared.whole.TakeError.TheVariants.{ReadFault, NoMemory};
 ghost use Rattle.ct_io.specs.Streams.{GivesAll, IsLongerThan};
 
@@ -59,7 +59,7 @@ pub fn take_all<S: Source>(
     ensures within { IfOk result (λ v. length v.items ≤ limit) }
 
     ensures too_long { result ≡ Err TakeError.TooLong → IsLongerThan limit (S.left source.old) }
-    ensures read { result ≡ Err TakeError.ReadFault → Rose (S.faults source.old) (S.faults source.new) }
+    ensures read { result ≡ Err TakeError.ReadFault → Rose end_of_u64 (S.faults source.old) (S.faults source.new) }
 
     ensures later { S.faults source.old ≤ S.faults source.new }
     ensures given { OnErr result ((bytes : List ℕ) × Consumes (S.left source.old) (S.left source.new) bytes) }
@@ -84,7 +84,7 @@ fn read_past<S: Source>(source: &mut S, room: usize, piece: &mut [u8]) -> Result
     requires { 0 < length piece.old }
     ensures bound { IfOk result (λ n. (n ≤ room + 1) × (n ≤ length piece.new)) }
     ensures bytes { ReadConsumes (S.left source.old) (S.left source.new) result piece.new }
-    ensures cause { HasCause (S.faults source.old) (S.faults source.new) result }
+    ensures cause { HasCause end_of_u64 (S.faults source.old) (S.faults source.new) result }
 {
     let most = room.min(piece.len() - 1) + 1;
     source.read(&mut piece[..most])
@@ -95,7 +95,7 @@ pub fn put_all<K: Sink>(sink: &mut K, bytes: &[u8]) -> Result<(), PutFault>
     ensures ok { OnOk result (Appends (K.held sink.old) (K.held sink.new) bytes.now) }
     ensures err { IfErr result (λ fault. Appends (K.held sink.old) (K.held sink.new) (take fault.sent bytes.now)) }
     ensures sent { IfErr result (λ fault. fault.sent < length bytes.now) }
-    ensures cause { HasCause (K.faults sink.old) (K.faults sink.new) result }
+    ensures cause { HasCause end_of_u64 (K.faults sink.old) (K.faults sink.new) result }
 {
     let mut sent = 0;
     while sent < bytes.len() {

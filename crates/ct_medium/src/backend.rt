@@ -1,5 +1,5 @@
 ghost use Rattle.std.specs.Prelude.{◌≡◌, ℕ, List, [], ◌<◌, length, slice_set, slice_index_or, OnOk, OnErr};
-ghost use Rattle.ct_medium.specs.Causes.{HasCause};
+ghost use Rattle.ct_word.specs.Causes.{HasCause, no_end};
 
 use ct_word::{Block, Failed};
 
@@ -20,7 +20,7 @@ pub trait Backend: Drop {
         ensures got { OnOk result (into.new ≡ slice_index_or (blocks self.old) lba []) }
         ensures kept { OnErr result (into.new ≡ into.old) }
         ensures stays { blocks self.new ≡ blocks self.old }
-        ensures cause { HasCause (faults self.old) (faults self.new) result };
+        ensures cause { HasCause no_end (faults self.old) (faults self.new) result };
 
     /// Puts a block in the place of another, which is handed out.
     fn swap(&mut self, lba: u32, block: &mut Block) -> Result<(), Failed>
@@ -31,5 +31,5 @@ pub trait Backend: Drop {
         ensures stays { OnErr result (blocks self.new ≡ blocks self.old) }
         ensures kept { OnErr result (block.new ≡ block.old) }
 
-        ensures cause { HasCause (faults self.old) (faults self.new) result };
+        ensures cause { HasCause no_end (faults self.old) (faults self.new) result };
 }

@@ -39,3 +39,24 @@ fn swaps_and_gets_at_both_ends(rt: HostRuntime) -> Result<(), Fail> {
     assert_eq!(rt; *ram.block(2), [8; 512]);
     Ok(())
 }
+
+#[test]
+fn fails_at_the_listed_calls_alone(rt: HostRuntime) -> Result<(), Fail> {
+    let alloc = rt.alloc();
+    let mut medium = FaultyRam::open(alloc, 2, [1, 2].to_vec(alloc)?)?;
+    let mut block = Block::zeros(alloc)?;
+    let mut into = [9; 512];
+    assert!(rt; 1 < medium.len());
+    block.fill(&[7; 512]);
+    assert_eq!(rt; medium.swap(1, &mut block), Ok(()));
+    block.fill(&[8; 512]);
+    assert_eq!(rt; medium.swap(1, &mut block), Err(Failed));
+    assert_eq!(rt; *block.bytes(), [8; 512]);
+    assert_eq!(rt; medium.get(1, &mut into), Err(Failed));
+    assert_eq!(rt; into, [9; 512]);
+    put(&mut medium, 0, 6, &mut block, &mut into)?;
+    assert_eq!(rt; into, [6; 512]);
+    assert_eq!(rt; medium.blocks().len(), 2);
+    assert_eq!(rt; *medium.block(1), [7; 512]);
+    Ok(())
+}
