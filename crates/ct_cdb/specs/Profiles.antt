@@ -1,5 +1,5 @@
 -- The row of a command, what is read off it, and what holds of every row.
-use Rattle.std.specs.Prelude.{◌≡◌, ℕ, ◌+◌, ◌*◌, ◌<◌, ◌≤◌, max, List, [], ◌∷◌, length, Bool, true, false, not, ◌&&◌, nat_lt, Result, Ok, Err, count_by}
+use Rattle.std.specs.Prelude.{◌≡◌, ℕ, suc, ◌+◌, ◌*◌, ◌<◌, ◌≤◌, max, List, [], ◌∷◌, length, Bool, true, false, not, ◌&&◌, nat_lt, Result, Ok, Err, if◌then◌else◌}
 use Rattle.std.specs.List.{list_all, list_any}
 use Rattle.ct_word.specs.declared.limit.TheConstants.{BLOCK_SIZE}
 use Rattle.ct_cdb.specs.declared.op.Op.{Op}
@@ -104,7 +104,8 @@ most_named count (phase ∷ phases) = max (named_by count phase) (most_named cou
 
 -- how many of some phases give blocks
 abbrev pub giving : List Phase → ℕ
-giving phases = count_by gives phases
+giving [] = 0
+giving (phase ∷ phases) = if gives phase then suc (giving phases) else giving phases
 
 -- the index that a row has goes with its phases: the table of conflicts lets commands of the index Rd pass one another, and
 -- those of Rd, Wr and Un alone move blocks

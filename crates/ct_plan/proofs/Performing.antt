@@ -100,3 +100,7 @@ size_after out (operations.Compare lba place) cells = refl
 pub size_after_all : (out : List ℕ) (ops : List BlockOp) (cells : Cells) → length (after_all out ops cells).blocks ≡ length cells.blocks
 size_after_all out [] cells = refl
 size_after_all out (x ∷ xs) cells = size_after_all out xs (after out x cells) ∙ size_after out x cells
+
+pub perform_size : (out : List ℕ) (ops : List BlockOp) (cells : Cells) → length (performed out ops cells).cells.blocks ≡ length cells.blocks
+perform_size out ops cells =
+    ap (λ (c : Cells). length c.blocks) (performed-cells out ops cells) ∙ size_after_all out (take (performed out ops cells).made ops) cells

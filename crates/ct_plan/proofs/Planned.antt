@@ -1,86 +1,160 @@
--- What the plan of a command asks of the data-out and the disk, and that a task can begin with it.
-use Rattle.std.proofs.Common.{◌≡◌, ℕ, zero, suc, ◌+◌, ◌*◌, ◌≤◌, Bool, true, false, ◌&&◌, not, nat_le, ltb-false, sym, subst, List, [], refl, arith, leb-true, nat_lt, if◌then◌else◌}
-use Rattle.std.specs.List.{All}
-use Rattle.std.proofs.lemmas.List.Elements.{All-nil, All-cons}
-use Rattle.std.proofs.lemmas.Bool.{false≢true}
-use Rattle.ct_cdb.specs.declared.op.Op.{Op}
-use Rattle.ct_cdb.specs.declared.op.Op.TheVariants.{Read10, Write10}
-use Rattle.ct_cdb.specs.Performed.{is_performed}
-use Rattle.ct_cdb.specs.Asked.{asked_of}
+-- What the plan of a row asks of the data-out and the disk, and that a task can begin with it.
+use Rattle.std.proofs.Common.{◌≡◌, ℕ, zero, suc, ◌+◌, ◌*◌, ◌<◌, ◌≤◌, max, Bool, true, false, ◌&&◌, not, cond, nat_le, nat_lt, ltb-false, leb-true, sym, ap, ◌∙◌, subst, List, [], ◌∷◌, ◌++◌, length, refl, arith, if◌then◌else◌}
+use Rattle.std.specs.List.{All, list_all}
+use Rattle.std.proofs.lemmas.List.Elements.{All-nil, All-cons, All-append}
+use Rattle.std.proofs.lemmas.Bool.{and_parts}
+use Rattle.ct_word.specs.declared.limit.TheConstants.{BLOCK_SIZE}
+use Rattle.ct_cdb.specs.declared.profile.Phase.{Phase}
+use Rattle.ct_cdb.specs.declared.profile.Phase.TheVariants as phase
+use Rattle.ct_cdb.specs.declared.profile.Profile.{Profile}
+use Rattle.ct_cdb.specs.declared.ranges.LbaRange.{LbaRange}
+use Rattle.ct_cdb.specs.Ranges.{numbers_from, numbers_of, total, is_inside}
+use Rattle.ct_cdb.specs.Profiles.{Fits, is_performed, named_by, most_named, gives, giving}
+use Rattle.ct_cdb.proofs.Numbers.{length-numbers_of}
 use Rattle.ct_pool.specs.Leases.{PoolState, IsLeaseOf}
 use Rattle.ct_plan.specs.declared.operation.BlockOp.{BlockOp}
 use Rattle.ct_plan.specs.declared.operation.BlockOp.TheVariants as operations
 use Rattle.ct_plan.specs.declared.task.Task.{Task}
-use Rattle.ct_plan.specs.Plans.{operations_of, gets, puts, plan_of, gets_among}
-use Rattle.ct_plan.specs.Tasks.{IsReady, IsInside, IsCovered}
+use Rattle.ct_plan.specs.Plans.{operation_of, operations_from, operations_in, planned, plan_of, is_get, gets_among}
+use Rattle.ct_plan.specs.Tasks.{IsReady, IsInside, IsCovered, lba_of}
+use Rattle.ct_plan.proofs.Lists.{gets_among-append}
 
-gets_inside : (blocks lba count : ℕ) → lba + count ≤ blocks → All (IsInside blocks) (gets lba count)
-gets_inside blocks lba zero within = All-nil (IsInside blocks)
-gets_inside blocks lba (suc count) within = All-cons (IsInside blocks) (operations.Get lba) (gets (lba + 1) count) (omega arith) (gets_inside blocks (lba + 1) count (omega arith))
+-- every operation is inside the disk
 
-puts_inside : (blocks lba place count : ℕ) → lba + count ≤ blocks → All (IsInside blocks) (puts lba place count)
-puts_inside blocks lba place zero within = All-nil (IsInside blocks)
-puts_inside blocks lba place (suc count) within = All-cons (IsInside blocks) (operations.Put lba place) (puts (lba + 1) (place + 1) count) (omega arith) (puts_inside blocks (lba + 1) (place + 1) count (omega arith))
+lba_is : (phase : Phase) (count place lba : ℕ) → lba_of (operation_of phase count place lba) ≡ lba
+lba_is phase.Get count place lba = refl
+lba_is phase.Look count place lba = refl
+lba_is phase.Put count place lba = refl
+lba_is phase.PutSecondHalf count place lba = refl
+lba_is phase.PutSame count place lba = refl
+lba_is phase.Zero count place lba = refl
+lba_is phase.Compare count place lba = refl
 
-gets_covered : (out lba count : ℕ) → All (IsCovered out) (gets lba count)
-gets_covered out lba zero = All-nil (IsCovered out)
-gets_covered out lba (suc count) = All-cons (IsCovered out) (operations.Get lba) (gets (lba + 1) count) tt (gets_covered out (lba + 1) count)
+from_inside : (blocks : ℕ) (phase : Phase) (count place : ℕ) (lbas : List ℕ) → All (λ lba. lba < blocks) lbas → All (IsInside blocks) (operations_from phase count place lbas)
+from_inside blocks phase count place [] within = All-nil (IsInside blocks)
+from_inside blocks phase count place (lba ∷ lbas) within =
+    let here : lba < blocks = within 0 0 (omega arith) in
+    let inside : IsInside blocks (operation_of phase count place lba) = subst (λ (n : ℕ). n < blocks) (sym (lba_is phase count place lba)) here in
+    All-cons (IsInside blocks) (operation_of phase count place lba) (operations_from phase count (place + 1) lbas) inside
+    (from_inside blocks phase count (place + 1) lbas (λ k d less. within (suc k) d (omega (arith, less))))
 
-puts_covered : (out lba place count : ℕ) → 512 * (place + count) ≤ out → All (IsCovered out) (puts lba place count)
-puts_covered out lba place zero enough = All-nil (IsCovered out)
-puts_covered out lba place (suc count) enough = All-cons (IsCovered out) (operations.Put lba place) (puts (lba + 1) (place + 1) count) (omega arith) (puts_covered out (lba + 1) (place + 1) count (omega arith))
+numbers_inside : (blocks first count : ℕ) → first + count ≤ blocks → All (λ lba. lba < blocks) (numbers_from first count)
+numbers_inside blocks first zero within = All-nil (λ lba. lba < blocks)
+numbers_inside blocks first (suc count) within = All-cons (λ lba. lba < blocks) first (numbers_from (first + 1) count) (omega arith) (numbers_inside blocks (first + 1) count (omega arith))
 
-gets_counted : (lba count : ℕ) → gets_among (gets lba count) ≡ count
-gets_counted lba zero = refl
-gets_counted lba (suc count) = omega (arith, gets_counted (lba + 1) count)
+all_inside : (blocks : ℕ) (ranges : List LbaRange) → list_all (is_inside blocks) ranges ≡ true → All (λ lba. lba < blocks) (numbers_of ranges)
+all_inside blocks [] inside = All-nil (λ lba. lba < blocks)
+all_inside blocks (range ∷ ranges) inside =
+    let parts = and_parts (is_inside blocks range) (list_all (is_inside blocks) ranges) inside in
+    All-append (λ lba. lba < blocks) (numbers_from range.lba range.count) (numbers_of ranges)
+    (numbers_inside blocks range.lba range.count (leb-true (range.lba + range.count) blocks parts.0)) (all_inside blocks ranges parts.1)
 
-puts_counted : (lba place count : ℕ) → gets_among (puts lba place count) ≡ 0
-puts_counted lba place zero = refl
-puts_counted lba place (suc count) = puts_counted (lba + 1) (place + 1) count
+planned_inside : (blocks : ℕ) (phases : List Phase) (ranges : List LbaRange) → list_all (is_inside blocks) ranges ≡ true → All (IsInside blocks) (planned phases ranges)
+planned_inside blocks [] ranges inside = All-nil (IsInside blocks)
+planned_inside blocks (phase ∷ phases) ranges inside =
+    All-append (IsInside blocks) (operations_in phase ranges) (planned phases ranges)
+    (from_inside blocks phase (total ranges) 0 (numbers_of ranges) (all_inside blocks ranges inside)) (planned_inside blocks phases ranges inside)
 
--- what operations ask, and at most how many gets are among them
-record Asks (out blocks most : ℕ) (planned : List BlockOp) : Type 0 where
-  inside : All (IsInside blocks) planned
-  covered : All (IsCovered out) planned
-  few : gets_among planned ≤ most
+-- the data-out has what every operation names
 
-both_true : (a b : Bool) → (not a && b) ≡ true → (a ≡ false) × (b ≡ true)
-both_true true b h = absurd (false≢true h)
-both_true false b h = (refl, h)
+covers : (out : ℕ) (phase : Phase) (count place lba : ℕ) → place < count → BLOCK_SIZE * named_by count phase ≤ out → IsCovered out (operation_of phase count place lba)
+covers out phase.Get count place lba within enough = tt
+covers out phase.Look count place lba within enough = tt
+covers out phase.Put count place lba within enough = omega arith
+covers out phase.PutSecondHalf count place lba within enough = omega arith
+covers out phase.PutSame count place lba within enough = omega arith
+covers out phase.Zero count place lba within enough = tt
+covers out phase.Compare count place lba within enough = omega arith
 
-performed_asks : (out blocks : ℕ) (op : Op) → is_performed out blocks op ≡ true → Asks out blocks (asked_of op) (operations_of op)
-performed_asks out blocks (Read10 lba count) h =
-    let checks = both_true (nat_lt out 0) (nat_le (lba + count) blocks) h in
-    record {
-      inside = gets_inside blocks lba count (leb-true (lba + count) blocks checks.1);
-      covered = gets_covered out lba count;
-      few = omega (arith, gets_counted lba count);
-    }
-performed_asks out blocks (Write10 lba count) h =
-    let checks = both_true (nat_lt out (512 * count)) (nat_le (lba + count) blocks) h in
-    record {
-      inside = puts_inside blocks lba 0 count (leb-true (lba + count) blocks checks.1);
-      covered = puts_covered out lba 0 count (omega (arith, ltb-false out (512 * count) checks.0));
-      few = omega (arith, puts_counted lba 0 count);
-    }
+from_covered : (out : ℕ) (phase : Phase) (count place : ℕ) (lbas : List ℕ) → place + length lbas ≤ count → BLOCK_SIZE * named_by count phase ≤ out → All (IsCovered out) (operations_from phase count place lbas)
+from_covered out phase count place [] within enough = All-nil (IsCovered out)
+from_covered out phase count place (lba ∷ lbas) within enough =
+    All-cons (IsCovered out) (operation_of phase count place lba) (operations_from phase count (place + 1) lbas)
+    (covers out phase count place lba (omega arith) enough) (from_covered out phase count (place + 1) lbas (omega arith) enough)
 
-plan_asks : (out blocks : ℕ) (op : Op) → Asks out blocks (asked_of op) (plan_of out blocks op)
-unfolding plan_of
-plan_asks out blocks op = go (is_performed out blocks op) refl
+planned_covered : (out : ℕ) (phases : List Phase) (ranges : List LbaRange) → BLOCK_SIZE * most_named (total ranges) phases ≤ out → All (IsCovered out) (planned phases ranges)
+planned_covered out [] ranges enough = All-nil (IsCovered out)
+planned_covered out (phase ∷ phases) ranges enough =
+    All-append (IsCovered out) (operations_in phase ranges) (planned phases ranges)
+    (from_covered out phase (total ranges) 0 (numbers_of ranges) (omega (arith, length-numbers_of ranges)) (omega (arith, enough)))
+    (planned_covered out phases ranges (omega (arith, enough)))
+
+-- the gets among the operations
+
+get_of : (phase : Phase) (count place lba : ℕ) → is_get (operation_of phase count place lba) ≡ gives phase
+get_of phase.Get count place lba = refl
+get_of phase.Look count place lba = refl
+get_of phase.Put count place lba = refl
+get_of phase.PutSecondHalf count place lba = refl
+get_of phase.PutSame count place lba = refl
+get_of phase.Zero count place lba = refl
+get_of phase.Compare count place lba = refl
+
+gets_from : (phase : Phase) (count place : ℕ) (lbas : List ℕ) → gets_among (operations_from phase count place lbas) ≡ cond (gives phase) (length lbas) 0
+gets_from phase count place [] = go (gives phase)
   where
-    go : (performed : Bool) → is_performed out blocks op ≡ performed → Asks out blocks (asked_of op) (if performed then operations_of op else [])
-    go true h = performed_asks out blocks op h
-    go false h = record { inside = All-nil (IsInside blocks); covered = All-nil (IsCovered out); few = omega arith }
+    go : (given : Bool) → 0 ≡ cond given 0 0
+    go true = refl
+    go false = refl
+gets_from phase count place (lba ∷ lbas) =
+    ap (λ (given : Bool). cond given (suc rest) rest) (get_of phase count place lba) ∙ go (gives phase) (gets_from phase count (place + 1) lbas)
+  where
+    rest : ℕ
+    rest = gets_among (operations_from phase count (place + 1) lbas)
 
--- a task that has a lease for its plan, and room for what its command reads, can begin
-pub ready_first : (out blocks : ℕ) (op : Op) (pool : PoolState) (task : Task) → task.plan.operations ≡ plan_of out blocks op → task.done ≡ 0 → IsLeaseOf pool task.lease → task.lease.count ≡ task.plan.need → 512 * asked_of op ≤ task.body.room
-    → IsReady out blocks pool task
-ready_first out blocks op pool task planned none leased need room =
-    let asks = plan_asks out blocks op in
+    go : (given : Bool) → rest ≡ cond given (length lbas) 0 → cond given (suc rest) rest ≡ cond given (suc (length lbas)) 0
+    go true same = ap suc same
+    go false same = same
+
+pub gets_planned : (phases : List Phase) (ranges : List LbaRange) → gets_among (planned phases ranges) ≡ giving phases * total ranges
+gets_planned [] ranges = omega arith
+gets_planned (phase ∷ phases) ranges =
+    gets_among-append (operations_in phase ranges) (planned phases ranges)
+    ∙ ap (λ (n : ℕ). n + gets_among (planned phases ranges)) (gets_from phase (total ranges) 0 (numbers_of ranges) ∙ ap (λ (n : ℕ). cond (gives phase) n 0) (length-numbers_of ranges))
+    ∙ ap (λ (n : ℕ). cond (gives phase) (total ranges) 0 + n) (gets_planned phases ranges)
+    ∙ more (gives phase) (giving phases) (total ranges)
+  where
+    more : (given : Bool) (n m : ℕ) → cond given m 0 + n * m ≡ cond given (suc n) n * m
+    more true n m = grind arith
+    more false n m = omega arith
+
+-- what operations ask, and at most how many bytes are got by them
+record Asks (out blocks most : ℕ) (plan : List BlockOp) : Type 0 where
+  inside : All (IsInside blocks) plan
+  covered : All (IsCovered out) plan
+  roomy : 512 * gets_among plan ≤ most
+
+performed_asks : (out blocks : ℕ) (profile : Profile) → Fits profile → is_performed out blocks profile ≡ true → Asks out blocks profile.data_in (planned profile.phases profile.ranges)
+performed_asks out blocks profile fits h =
+    let checks = both_true (nat_lt out profile.data_out) (list_all (is_inside blocks) profile.ranges) h in
+    let enough : profile.data_out ≤ out = ltb-false out profile.data_out checks.0 in
     record {
-      inside = subst (λ (ops : List BlockOp). All (IsInside blocks) ops) (sym planned) asks.inside;
-      covered = subst (λ (ops : List BlockOp). All (IsCovered out) ops) (sym planned) asks.covered;
+      inside = planned_inside blocks profile.phases profile.ranges checks.1;
+      covered = planned_covered out profile.phases profile.ranges (omega (arith, fits.covered, enough));
+      roomy = omega (arith, fits.roomy, gets_planned profile.phases profile.ranges);
+    }
+  where
+    both_true : (a b : Bool) → (not a && b) ≡ true → (a ≡ false) × (b ≡ true)
+    both_true true b h = absurd (cc)
+    both_true false b h = (refl, h)
+
+plan_asks : (out blocks : ℕ) (profile : Profile) → Fits profile → Asks out blocks profile.data_in (plan_of out blocks profile)
+unfolding plan_of
+plan_asks out blocks profile fits = go (is_performed out blocks profile) refl
+  where
+    go : (performed : Bool) → is_performed out blocks profile ≡ performed → Asks out blocks profile.data_in (if performed then planned profile.phases profile.ranges else [])
+    go true h = performed_asks out blocks profile fits h
+    go false h = record { inside = All-nil (IsInside blocks); covered = All-nil (IsCovered out); roomy = omega arith }
+
+-- a task that has a lease for its plan, and room for what its command returns, can begin
+pub ready_first : (out blocks : ℕ) (profile : Profile) (pool : PoolState) (task : Task) → Fits profile → task.plan.operations ≡ plan_of out blocks profile → task.done ≡ 0 → IsLeaseOf pool task.lease → task.lease.count ≡ task.plan.need
+    → profile.data_in ≤ task.body.room → IsReady out blocks pool task
+ready_first out blocks profile pool task fits planned_is none leased need room =
+    let asks = plan_asks out blocks profile fits in
+    record {
+      inside = subst (λ (ops : List BlockOp). All (IsInside blocks) ops) (sym planned_is) asks.inside;
+      covered = subst (λ (ops : List BlockOp). All (IsCovered out) ops) (sym planned_is) asks.covered;
       leased = leased;
       need = need;
-      room = rw (none, planned) (omega (arith, room, asks.few));
+      room = rw (none, planned_is) (omega (arith, room, asks.roomy));
     }

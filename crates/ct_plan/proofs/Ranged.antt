@@ -1,51 +1,136 @@
--- The operations on a range, by their places.
-use Rattle.std.proofs.Common.{◌≡◌, ℕ, zero, suc, ◌+◌, ◌<◌, min, length, take, slice_get, Some, refl, ap, ◌∙◌, arith}
-use Rattle.ct_plan.specs.declared.operation.BlockOp.TheVariants as operations
-use Rattle.ct_plan.specs.declared.plan.Work.{Work}
-use Rattle.ct_plan.specs.declared.plan.Work.TheVariants.{Gets, Puts}
-use Rattle.ct_plan.specs.Plans.{gets, puts, puts_among}
-use Rattle.ct_plan.specs.Ranges.{range_operations}
+-- The operations of phases, by their places.
+use Rattle.std.proofs.Common.{◌≡◌, ℕ, zero, suc, ◌+◌, ◌-◌, ◌*◌, ◌<◌, ◌≤◌, min, Bool, true, false, cond, List, [], ◌∷◌, ◌++◌, length, take, slice_get, Some, refl, sym, ap, ◌∙◌, arith, length-append, append-nil}
+use Rattle.ct_cdb.specs.declared.profile.Phase.{Phase}
+use Rattle.ct_cdb.specs.declared.profile.Phase.TheVariants as phase
+use Rattle.ct_cdb.specs.declared.ranges.LbaRange.{LbaRange}
+use Rattle.ct_cdb.specs.Ranges.{total, numbers_of}
+use Rattle.ct_cdb.specs.Profiles.{writes}
+use Rattle.ct_cdb.proofs.Numbers.{length-numbers_of}
+use Rattle.ct_plan.specs.declared.operation.BlockOp.{BlockOp}
+use Rattle.ct_plan.specs.Plans.{operation_of, operations_from, operations_in, planned, is_put, puts_among, puts_in}
 
-length-gets : (lba count : ℕ) → length (gets lba count) ≡ count
-length-gets lba zero = refl
-length-gets lba (suc count) = ap suc (length-gets (lba + 1) count)
+length-operations_from : (phase : Phase) (count place : ℕ) (lbas : List ℕ) → length (operations_from phase count place lbas) ≡ length lbas
+length-operations_from phase count place [] = refl
+length-operations_from phase count place (lba ∷ lbas) = ap suc (length-operations_from phase count (place + 1) lbas)
 
-length-puts : (lba place count : ℕ) → length (puts lba place count) ≡ count
-length-puts lba place zero = refl
-length-puts lba place (suc count) = ap suc (length-puts (lba + 1) (place + 1) count)
+pub length-operations_in : (phase : Phase) (ranges : List LbaRange) → length (operations_in phase ranges) ≡ total ranges
+length-operations_in phase ranges = length-operations_from phase (total ranges) 0 (numbers_of ranges) ∙ length-numbers_of ranges
 
-pub length-range : (work : Work) (lba count : ℕ) → length (range_operations work lba count) ≡ count
-length-range Gets lba count = length-gets lba count
-length-range Puts lba count = length-puts lba 0 count
+pub length-planned : (phases : List Phase) (ranges : List LbaRange) → length (planned phases ranges) ≡ length phases * total ranges
+length-planned [] ranges = omega arith
+length-planned (phase ∷ phases) ranges =
+    let more : suc (length phases) * total ranges ≡ total ranges + length phases * total ranges = times_suc (length phases) (total ranges) in
+    omega (arith, length-append (operations_in phase ranges) (planned phases ranges), length-operations_in phase ranges, length-planned phases ranges, more)
+  where
+    times_suc : (n m : ℕ) → suc n * m ≡ m + n * m
+    times_suc n m = grind arith
 
-pub gets_at : (lba count place : ℕ) → place < count → slice_get (gets lba count) place ≡ Some (operations.Get (lba + place))
-gets_at lba zero place within = absurd (omega arith)
-gets_at lba (suc count) zero within = ap (λ n. Some (operations.Get n)) (omega arith)
-gets_at lba (suc count) (suc place) within = gets_at (lba + 1) count place (omega arith) ∙ ap (λ n. Some (operations.Get n)) (omega arith)
+pub none_planned : (phases : List Phase) (ranges : List LbaRange) → length phases * total ranges ≡ 0 → planned phases ranges ≡ []
+none_planned phases ranges none = empty (planned phases ranges) (length-planned phases ranges ∙ none)
+  where
+    empty : (ops : List BlockOp) → length ops ≡ 0 → ops ≡ []
+    empty [] e = refl
+    empty (op ∷ ops) e = absurd (omega arith)
 
-puts_from_at : (lba first count place : ℕ) → place < count → slice_get (puts lba first count) place ≡ Some (operations.Put (lba + place) (first + place))
-puts_from_at lba first zero place within = absurd (omega arith)
-puts_from_at lba first (suc count) zero within =
-    let same_lba : lba ≡ lba + 0 = omega arith in
-    let same_place : first ≡ first + 0 = omega arith in
-    ap (λ n. Some (operations.Put n first)) same_lba ∙ ap (λ n. Some (operations.Put (lba + 0) n)) same_place
-puts_from_at lba first (suc count) (suc place) within =
-    let same_lba : lba + 1 + place ≡ lba + suc place = omega arith in
-    let same_place : first + 1 + place ≡ first + suc place = omega arith in
-    puts_from_at (lba + 1) (first + 1) count place (omega arith)
-    ∙ ap (λ n. Some (operations.Put n (first + 1 + place))) same_lba ∙ ap (λ n. Some (operations.Put (lba + suc place) n)) same_place
+-- an operation by its place
 
-pub puts_at : (lba count place : ℕ) → place < count → slice_get (puts lba 0 count) place ≡ Some (operations.Put (lba + place) place)
-puts_at lba count place within = puts_from_at lba 0 count place within ∙ ap (λ n. Some (operations.Put (lba + place) n)) (omega arith)
+from_at : (phase : Phase) (count place : ℕ) (lbas : List ℕ) (k lba : ℕ) → slice_get lbas k ≡ Some lba → slice_get (operations_from phase count place lbas) k ≡ Some (operation_of phase count (place + k) lba)
+from_at phase count place [] k lba found = absurd (cc)
+from_at phase count place (x ∷ xs) zero lba found =
+    let same : x ≡ lba = cc in
+    let here : place ≡ place + 0 = omega arith in
+    ap (λ (n : ℕ). Some (operation_of phase count place n)) same ∙ ap (λ (n : ℕ). Some (operation_of phase count n lba)) here
+from_at phase count place (x ∷ xs) (suc k) lba found =
+    let here : place + 1 + k ≡ place + suc k = omega arith in
+    from_at phase count (place + 1) xs k lba found ∙ ap (λ (n : ℕ). Some (operation_of phase count n lba)) here
 
-pub no_puts : (done lba count : ℕ) → 0 ≡ puts_among (take done (gets lba count))
-no_puts zero lba count = refl
-no_puts (suc done) lba zero = refl
-no_puts (suc done) lba (suc count) = no_puts done (lba + 1) count
+in_at : (phase : Phase) (ranges : List LbaRange) (k lba : ℕ) → slice_get (numbers_of ranges) k ≡ Some lba → slice_get (operations_in phase ranges) k ≡ Some (operation_of phase (total ranges) k lba)
+in_at phase ranges k lba found =
+    let here : 0 + k ≡ k = omega arith in
+    from_at phase (total ranges) 0 (numbers_of ranges) k lba found ∙ ap (λ (n : ℕ). Some (operation_of phase (total ranges) n lba)) here
 
-pub all_puts : (done lba place count : ℕ) → min done count ≡ puts_among (take done (puts lba place count))
-all_puts zero lba place count = omega arith
-all_puts (suc done) lba place zero = omega arith
-all_puts (suc done) lba place (suc count) =
-    let one_more : min (suc done) (suc count) ≡ suc (min done count) = omega arith in
-    one_more ∙ ap suc (all_puts done (lba + 1) (place + 1) count)
+front_at : (xs ys : List BlockOp) (k : ℕ) (x : BlockOp) → slice_get xs k ≡ Some x → slice_get (xs ++ ys) k ≡ Some x
+front_at [] ys k x found = absurd (cc)
+front_at (y ∷ xs) ys zero x found = found
+front_at (y ∷ xs) ys (suc k) x found = front_at xs ys k x found
+
+back_at : (xs ys : List BlockOp) (k : ℕ) → slice_get (xs ++ ys) (length xs + k) ≡ slice_get ys k
+back_at [] ys k = ap (slice_get ys) (omega arith)
+back_at (y ∷ xs) ys k =
+    let here : length (y ∷ xs) + k ≡ suc (length xs + k) = omega arith in
+    ap (slice_get ((y ∷ xs) ++ ys)) here ∙ back_at xs ys k
+
+pub first_at : (first : Phase) (phases : List Phase) (ranges : List LbaRange) (k lba : ℕ) → slice_get (numbers_of ranges) k ≡ Some lba → slice_get (planned (first ∷ phases) ranges) k ≡ Some (operation_of first (total ranges) k lba)
+first_at first phases ranges k lba found = front_at (operations_in first ranges) (planned phases ranges) k (operation_of first (total ranges) k lba) (in_at first ranges k lba found)
+
+pub second_at : (first second : Phase) (ranges : List LbaRange) (done lba : ℕ) → total ranges ≤ done → slice_get (numbers_of ranges) (done - total ranges) ≡ Some lba
+    → slice_get (planned (first ∷ second ∷ []) ranges) done ≡ Some (operation_of second (total ranges) (done - total ranges) lba)
+second_at first second ranges done lba behind found =
+    let place : done ≡ length (operations_in first ranges) + (done - total ranges) = omega (arith, length-operations_in first ranges) in
+    ap (slice_get (planned (first ∷ second ∷ []) ranges)) place
+    ∙ back_at (operations_in first ranges) (planned (second ∷ []) ranges) (done - total ranges)
+    ∙ first_at second [] ranges (done - total ranges) lba found
+
+-- the puts among the first operations
+
+put_of : (phase : Phase) (count place lba : ℕ) → is_put (operation_of phase count place lba) ≡ writes phase
+put_of phase.Get count place lba = refl
+put_of phase.Look count place lba = refl
+put_of phase.Put count place lba = refl
+put_of phase.PutSecondHalf count place lba = refl
+put_of phase.PutSame count place lba = refl
+put_of phase.Zero count place lba = refl
+put_of phase.Compare count place lba = refl
+
+puts_from : (phase : Phase) (count place : ℕ) (lbas : List ℕ) (done : ℕ) → puts_among (take done (operations_from phase count place lbas)) ≡ cond (writes phase) (min done (length lbas)) 0
+puts_from phase count place lbas zero = go (writes phase)
+  where
+    go : (put : Bool) → 0 ≡ cond put (min 0 (length lbas)) 0
+    go true = omega arith
+    go false = refl
+puts_from phase count place [] (suc done) = go (writes phase)
+  where
+    go : (put : Bool) → 0 ≡ cond put (min (suc done) 0) 0
+    go true = omega arith
+    go false = refl
+puts_from phase count place (lba ∷ lbas) (suc done) =
+    ap (λ (put : Bool). cond put (suc rest) rest) (put_of phase count place lba) ∙ go (writes phase) (puts_from phase count (place + 1) lbas done)
+  where
+    rest : ℕ
+    rest = puts_among (take done (operations_from phase count (place + 1) lbas))
+
+    go : (put : Bool) → rest ≡ cond put (min done (length lbas)) 0 → cond put (suc rest) rest ≡ cond put (min (suc done) (suc (length lbas))) 0
+    go true same = omega (arith, same)
+    go false same = same
+
+puts_front : (phase : Phase) (ranges : List LbaRange) (done : ℕ) → puts_among (take done (operations_in phase ranges)) ≡ puts_in phase (min done (total ranges))
+puts_front phase ranges done =
+    puts_from phase (total ranges) 0 (numbers_of ranges) done ∙ ap (λ (n : ℕ). puts_in phase (min done n)) (length-numbers_of ranges)
+
+puts_append : (xs ys : List BlockOp) → puts_among (xs ++ ys) ≡ puts_among xs + puts_among ys
+puts_append [] ys = omega arith
+puts_append (x ∷ xs) ys = go (is_put x) (puts_append xs ys)
+  where
+    go : (put : Bool) → puts_among (xs ++ ys) ≡ puts_among xs + puts_among ys → cond put (suc (puts_among (xs ++ ys))) (puts_among (xs ++ ys)) ≡ cond put (suc (puts_among xs)) (puts_among xs) + puts_among ys
+    go true same = omega (arith, same)
+    go false same = same
+
+take_append : (done : ℕ) (xs ys : List BlockOp) → take done (xs ++ ys) ≡ take done xs ++ take (done - length xs) ys
+take_append zero xs ys = let none : 0 - length xs ≡ 0 = omega arith in ap (λ (n : ℕ). take n ys) (sym none)
+take_append (suc done) [] ys = ap (λ (n : ℕ). take n ys) (omega arith)
+take_append (suc done) (x ∷ xs) ys =
+    let less : done - length xs ≡ suc done - length (x ∷ xs) = omega arith in
+    ap (λ (ops : List BlockOp). x ∷ ops) (take_append done xs ys) ∙ ap (λ (n : ℕ). x ∷ (take done xs ++ take n ys)) less
+
+pub puts_one : (first : Phase) (ranges : List LbaRange) (done : ℕ) → puts_among (take done (planned (first ∷ []) ranges)) ≡ puts_in first (min done (total ranges))
+puts_one first ranges done = ap (λ (ops : List BlockOp). puts_among (take done ops)) (append-nil (operations_in first ranges)) ∙ puts_front first ranges done
+
+pub puts_two : (first second : Phase) (ranges : List LbaRange) (done : ℕ)
+    → puts_among (take done (planned (first ∷ second ∷ []) ranges)) ≡ puts_in first (min done (total ranges)) + puts_in second (min (done - total ranges) (total ranges))
+puts_two first second ranges done =
+    let left : done - length (operations_in first ranges) ≡ done - total ranges = ap (λ (n : ℕ). done - n) (length-operations_in first ranges) in
+    ap puts_among (take_append done (operations_in first ranges) (planned (second ∷ []) ranges))
+    ∙ puts_append (take done (operations_in first ranges)) (take (done - length (operations_in first ranges)) (planned (second ∷ []) ranges))
+    ∙ ap (λ (n : ℕ). n + puts_among (take (done - length (operations_in first ranges)) (planned (second ∷ []) ranges))) (puts_front first ranges done)
+    ∙ ap (λ (n : ℕ). puts_in first (min done (total ranges)) + puts_among (take n (planned (second ∷ []) ranges))) left
+    ∙ ap (λ (n : ℕ). puts_in first (min done (total ranges)) + n) (puts_one second ranges (done - total ranges))

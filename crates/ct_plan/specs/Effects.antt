@@ -1,13 +1,14 @@
 -- What a command does at once, by its row: to the blocks of a disk, and to the data that it returns. Nothing here speaks of
 -- operations, of which its plan is made.
-use Rattle.std.specs.Prelude.{ℕ, zero, suc, ◌+◌, ◌*◌, List, [], ◌∷◌, ◌++◌, take, drop, length, Option, None, Some, option_map, option_or}
+use Rattle.std.specs.Prelude.{◌≡◌, ℕ, zero, suc, ◌+◌, ◌*◌, List, [], ◌∷◌, ◌++◌, take, drop, length, Option, None, Some, option_map}
+use Rattle.std.specs.Option.{option_or}
 use Rattle.std.specs.List.{concat}
 use Rattle.ct_word.specs.declared.limit.TheConstants.{BLOCK_SIZE}
 use Rattle.ct_cdb.specs.declared.profile.Phase.{Phase}
 use Rattle.ct_cdb.specs.declared.profile.Phase.TheVariants as phase
 use Rattle.ct_cdb.specs.declared.ranges.LbaRange.{LbaRange}
 use Rattle.ct_cdb.specs.Ranges.{total}
-use Rattle.ct_plan.specs.Cells.{Cells, out_block, zero_block, first_difference}
+use Rattle.ct_plan.specs.Cells.{Cells, Progress, out_block, zero_block, first_difference}
 
 -- a disk is a list of blocks, each a list of 512 bytes
 abbrev pub Disk : Type 0
@@ -79,3 +80,8 @@ abbrev pub effect : List ℕ → List LbaRange → List Phase → Cells → Effe
 effect out ranges [] cells = record { difference = None; cells = cells }
 effect out ranges (phase ∷ phases) cells =
     ended_by (difference_of out ranges phase cells) cells (effect out ranges phases (after_phase out ranges phase cells))
+
+-- operations come as far as an effect at once: to the same difference, with the same blocks and data
+pub record EndsAs (progress : Progress) (effect : Effect) : Type 0 where
+  pub difference : progress.difference ≡ effect.difference
+  pub cells : progress.cells ≡ effect.cells

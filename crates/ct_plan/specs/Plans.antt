@@ -5,7 +5,7 @@ use Rattle.ct_cdb.specs.declared.profile.Phase.TheVariants as phase
 use Rattle.ct_cdb.specs.declared.profile.Profile.{Profile}
 use Rattle.ct_cdb.specs.declared.ranges.LbaRange.{LbaRange}
 use Rattle.ct_cdb.specs.Ranges.{total, numbers_of}
-use Rattle.ct_cdb.specs.Profiles.{is_performed}
+use Rattle.ct_cdb.specs.Profiles.{writes, is_performed}
 use Rattle.ct_plan.specs.declared.operation.BlockOp.{BlockOp}
 use Rattle.ct_plan.specs.declared.operation.BlockOp.TheVariants as operations
 
@@ -56,6 +56,10 @@ is_put (operations.Compare lba place) = false
 abbrev pub puts_among : List BlockOp → ℕ
 puts_among [] = 0
 puts_among (operation ∷ others) = if is_put operation then suc (puts_among others) else puts_among others
+
+-- of so many operations of a phase those that are puts
+abbrev pub puts_in : Phase → ℕ → ℕ
+puts_in phase made = if writes phase then made else 0
 
 -- it gives a block to the initiator
 abbrev pub is_get : BlockOp → Bool

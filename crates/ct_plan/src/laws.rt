@@ -1,12 +1,14 @@
-//! Laws of plans, each the contract of a function with an empty body.
+//! Laws of plans, each the contract of a function with an empty body. They speak of phases and operations, and of no command.
 
-ghost use Rattle.std.specs.Prelude.{◌≡◌, ◌+◌, ℕ, List, [], length, take, sum, true, None};
-ghost use Rattle.ct_cdb.specs.declared.op.Op.{Op};
-ghost use Rattle.ct_cdb.specs.Performed.{is_performed};
+ghost use Rattle.std.specs.Prelude.{◌≡◌, ℕ, List, [], length, take, sum, true};
+ghost use Rattle.std.specs.List.{list_all};
+ghost use Rattle.ct_cdb.specs.declared.profile.Phase.{Phase};
+ghost use Rattle.ct_cdb.specs.declared.ranges.LbaRange.{LbaRange};
+ghost use Rattle.ct_cdb.specs.Ranges.{is_inside};
 ghost use Rattle.ct_plan.specs.declared.operation.BlockOp.{BlockOp};
-ghost use Rattle.ct_plan.specs.Plans.{plan_of};
+ghost use Rattle.ct_plan.specs.Plans.{planned};
 ghost use Rattle.ct_plan.specs.Cells.{Cells, performed, in_pieces};
-ghost use Rattle.ct_plan.specs.Effects.{written_disk, data_in};
+ghost use Rattle.ct_plan.specs.Effects.{EndsAs, effect};
 
 /// Operations made in pieces, wherever they are cut, do what they do in one.
 pub fn any_pieces()
@@ -14,14 +16,9 @@ pub fn any_pieces()
         in_pieces out sizes operations cells ≡ performed out (take (sum sizes) operations) cells }
 {}
 
-/// The whole plan of a command does what the command does at once.
+/// All operations of phases, on ranges inside the disk, do what the phases do at once.
 pub fn whole()
-    ensures { (op : Op) (out : List ℕ) (disk : List (List ℕ)) →
-        is_performed (length out) (length disk) op ≡ true →
-        performed out (plan_of (length out) (length disk) op) (record { blocks = disk; got = [] })
-        ≡ record {
-          made = length (plan_of (length out) (length disk) op);
-          difference = None;
-          cells = record { blocks = written_disk op out disk; got = data_in op disk };
-        } }
+    ensures { (out : List ℕ) (ranges : List LbaRange) (phases : List Phase) (cells : Cells) →
+        list_all (is_inside (length cells.blocks)) ranges ≡ true →
+        EndsAs (performed out (planned phases ranges) cells) (effect out ranges phases cells) }
 {}

@@ -1,5 +1,5 @@
 ghost use Rattle.std.specs.Prelude.{◌≡◌, ◌+◌, ◌-◌, ◌*◌, ◌^◌, ◌<◌, ◌≤◌, [], ◌∷◌, ◌++◌, length, slice_set, slice_index_or, option_map, OnOk, OnErr, OnSome, IfOk, IfSome, None};
-ghost use Rattle.ct_medium.specs.Causes.{HasCause};
+ghost use Rattle.ct_word.specs.Causes.{HasCause, no_end};
 ghost use Rattle.ct_pool.specs.Leases.{IsLeaseOf};
 ghost use Rattle.ct_plan.specs.Plans.{gets_among};
 ghost use Rattle.ct_plan.specs.Cells.{out_block, zero_block, first_difference, difference_at};
@@ -44,7 +44,7 @@ fn get<B: Backend>(
     ensures room { OnOk result (body.new.room + 512 ≡ body.old.room) }
     ensures kept { OnErr result (body.new ≡ body.old) }
     ensures stays { B.blocks medium.new ≡ B.blocks medium.old }
-    ensures cause { HasCause (B.faults medium.old) (B.faults medium.new) result }
+    ensures cause { HasCause no_end (B.faults medium.old) (B.faults medium.new) result }
 {
     medium.get(lba, buffer.bytes_mut())?;
     body.append(buffer.bytes());
@@ -57,7 +57,7 @@ fn put<B: Backend>(lba: u32, bytes: &[u8], buffer: &mut Block, medium: &mut B) -
     requires whole { length bytes.now ≡ 512 }
     ensures put { OnOk result (B.blocks medium.new ≡ slice_set (B.blocks medium.old) lba bytes.now) }
     ensures stays { OnErr result (B.blocks medium.new ≡ B.blocks medium.old) }
-    ensures cause { HasCause (B.faults medium.old) (B.faults medium.new) result }
+    ensures cause { HasCause no_end (B.faults medium.old) (B.faults medium.new) result }
 {
     buffer.fill(bytes);
     medium.swap(lba, buffer)
@@ -76,7 +76,7 @@ fn compare<B: Backend>(
     requires told { 512 * (place + 1) ≤ 2 ^ 32 }
     ensures found { IfOk result (λ found. found ≡ option_map (λ at. 512 * place + at) (first_difference (slice_index_or (B.blocks medium.old) lba []) bytes.now)) }
     ensures stays { B.blocks medium.new ≡ B.blocks medium.old }
-    ensures cause { HasCause (B.faults medium.old) (B.faults medium.new) result }
+    ensures cause { HasCause no_end (B.faults medium.old) (B.faults medium.new) result }
 {
     medium.get(lba, buffer.bytes_mut())?;
     match first_difference(buffer.bytes(), bytes) {
@@ -102,7 +102,7 @@ fn perform<B: Backend>(
     ensures found { IfOk result (λ found. found ≡ difference_at out.now operation (record { blocks = B.blocks medium.old; got = body.old.items })) }
     ensures kept { OnErr result (body.new ≡ body.old) }
     ensures stays { OnErr result (B.blocks medium.new ≡ B.blocks medium.old) }
-    ensures cause { HasCause (B.faults medium.old) (B.faults medium.new) result }
+    ensures cause { HasCause no_end (B.faults medium.old) (B.faults medium.new) result }
 {
     match operation {
         BlockOp::Get(lba) => {
@@ -146,7 +146,7 @@ fn make<B: Backend>(
     ensures kept { OnErr result (t.new ≡ t.old) }
     ensures stays { OnErr result (B.blocks medium.new ≡ B.blocks medium.old) }
     ensures pool { Uses pool.old pool.new t.old.lease }
-    ensures cause { HasCause (B.faults medium.old) (B.faults medium.new) result }
+    ensures cause { HasCause no_end (B.faults medium.old) (B.faults medium.new) result }
 {
     let buffer = pool.block(&t.lease, t.plan.buffer(t.done));
     let found = perform(operation, out, buffer, &mut t.body, medium)?;

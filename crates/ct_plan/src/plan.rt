@@ -1,5 +1,4 @@
 ghost use Rattle.std.specs.Prelude.{◌≡◌, ◌^◌, ◌<◌, ◌≤◌, length, take, slice_get, Some};
-ghost use Rattle.std.specs.Option.{option_copied};
 ghost use Rattle.ct_cdb.specs.Profiles.{Fits, profile_of};
 ghost use Rattle.ct_plan.specs.Plans.{operation_of, plan_of, need_of, puts_among, puts_in};
 ghost use Rattle.ct_plan.specs.Tasks.{IsTold};
@@ -87,9 +86,13 @@ impl Plan {
     pub fn writes_done(&self, done: u32) -> u32
         ensures { result ≡ puts_among (take done self.now.operations) }
     {
-        let (first, second) = self.phases.items();
-        let behind = done.saturating_sub(self.count);
-        puts_in(first, done.min(self.count)) + puts_in(second, behind.min(self.count))
+        let made = done.min(self.count);
+        let behind = done.saturating_sub(self.count).min(self.count);
+        match self.phases.items() {
+            (None, _) => 0,
+            (Some(first), None) => puts_in(*first, made),
+            (Some(first), Some(second)) => puts_in(*first, made) + puts_in(*second, behind),
+        }
     }
 
     /// The operation behind the first `done` ones.
@@ -143,11 +146,11 @@ fn operation_of(phase: Phase, count: u32, place: u32, lba: u32) -> BlockOp
 }
 
 // The puts among so many operations of a phase.
-fn puts_in(phase: Option<&Phase>, made: u32) -> u32
-    ensures { result ≡ puts_in (option_copied phase) made }
+fn puts_in(phase: Phase, made: u32) -> u32
+    ensures { result ≡ puts_in phase made }
 {
     match phase {
-        Some(Phase::Put | Phase::PutSecondHalf | Phase::PutSame | Phase::Zero) => made,
-        Some(Phase::Get | Phase::Look | Phase::Compare) | None => 0,
+        Phase::Put | Phase::PutSecondHalf | Phase::PutSame | Phase::Zero => made,
+        Phase::Get | Phase::Look | Phase::Compare => 0,
     }
 }

@@ -1,5 +1,5 @@
-use Rattle.ct_plan.proofs.Cuts.{whole_progress}
+use Rattle.ct_plan.proofs.Cuts.{whole_phases}
 use Rattle.ct_plan.proofs.laws.whole.Goals as goal
 
 pub returns : goal.returns
-returns c = whole_progress
+returns c = whole_phases
