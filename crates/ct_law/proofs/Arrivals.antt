@@ -24,7 +24,7 @@ use Rattle.ct_machine.specs.Events.{message, to_b_if, came_at_b, answered, enter
 use Rattle.ct_machine.specs.Acts.{Turn, nothing, writes, says, turned_cause, entering_with, entering, asking, open_numbers, Done, next_number, has_room_for, arriving_at, taking_in, coming_in, coming_to_a, coming_to, delivering_first, messages_to, delivering, next_step, stepping_next, doing_next, doing, act_of}
 use Rattle.ct_machine.specs.Runs.{replay, IsRun}
 use Rattle.ct_machine.specs.Laws.{brought, room_without, Brings}
-use Rattle.ct_law.proofs.Blocks.{after_all_size}
+use Rattle.ct_plan.proofs.Performing.{size_after_all}
 use Rattle.ct_law.proofs.Commands
 use Rattle.ct_law.proofs.Runs.{is_free, Turning, asks, closes_all, comes_to_b, steps, replay-act}
 use Rattle.ct_law.proofs.Comings.{every_run}
@@ -70,7 +70,8 @@ still_moved (Some task) count s = go task.stage
     moves done got = record {
       arrivals = refl;
       room = refl;
-      size = after_all_size task.command.out (take count (drop done (plan_in (length s.blocks) task.command))) (record { blocks = s.blocks; got = got });
+      size = size_after_all task.command.out (take count (drop done (plan_in (length s.blocks) task.command)))
+          (record { blocks = s.blocks; got = got });
     }
 
     go : (stage : Stage) → Still s (moved_at stage task count s)

@@ -1,29 +1,28 @@
 -- Operations on two lists of blocks that agree where they go.
-use Rattle.std.proofs.Common.{◌≡◌, ℕ, zero, suc, ◌+◌, ◌≤◌, ◌<◌, Bool, true, false, ◌||◌, List, [], ◌∷◌, ◌++◌, Option, Some, None, length, take, slice_index_or, slice_set, refl, sym, ap, ◌∙◌, subst, ⊎_elim, arith, nat_eq, eq-eqb, cond}
+use Rattle.std.proofs.Common.{◌≡◌, ℕ, zero, suc, ◌+◌, ◌*◌, ◌≤◌, ◌<◌, Bool, true, false, ◌||◌, List, [], ◌∷◌, ◌++◌, Option, Some, None, length, take, slice_index_or, slice_set, refl, sym, ap, ◌∙◌, subst, ⊎_elim, arith, nat_eq, eq-eqb, cond}
+use Rattle.std.specs.Prelude.{option_map}
 use Rattle.std.proofs.lemmas.Bool.{cases_eq, cases_lt, or_cases, or_parts, or_left, or_right, both_ways, or_from}
 use Rattle.std.proofs.lemmas.List.{length-set, get_or-set_same, get_or-set_other, set_past}
 use Rattle.ct_plan.specs.declared.operation.BlockOp.{BlockOp}
-use Rattle.ct_plan.specs.declared.operation.BlockOp.TheVariants.{Get, Put}
+use Rattle.ct_plan.specs.declared.operation.BlockOp.TheVariants as operations
 use Rattle.ct_plan.specs.Plans.{is_put, puts_among}
-use Rattle.ct_plan.specs.Cells.{Cells, out_block, after, after_all, difference_at, Progress, one_more, unless, performed}
+use Rattle.ct_plan.specs.Tasks.{lba_of}
+use Rattle.ct_plan.specs.Cells.{Cells, out_block, zero_block, after, after_all, first_difference, difference_at, Progress, one_more, unless, performed}
+use Rattle.ct_plan.proofs.Performing.{performed-cells, size_after_all}
 use Rattle.ct_machine.specs.Serial.{first_puts}
 
 -- the block at a place
 abbrev pub cell : List (List ℕ) → ℕ → List ℕ
 cell blocks lba = slice_index_or blocks lba []
 
-abbrev pub place_of : BlockOp → ℕ
-place_of (Get lba) = lba
-place_of (Put lba place) = lba
-
 -- some operation, or some put, of the list is at the place
 abbrev pub uses : ℕ → List BlockOp → Bool
 uses lba [] = false
-uses lba (op ∷ ops) = nat_eq lba (place_of op) || uses lba ops
+uses lba (op ∷ ops) = nat_eq lba (lba_of op) || uses lba ops
 
 abbrev pub puts : ℕ → List BlockOp → Bool
 puts lba [] = false
-puts lba (op ∷ ops) = cond (is_put op) (nat_eq lba (place_of op)) false || puts lba ops
+puts lba (op ∷ ops) = cond (is_put op) (nat_eq lba (lba_of op)) false || puts lba ops
 
 -- a command before its first operation
 abbrev pub start : List (List ℕ) → Cells
@@ -57,20 +56,36 @@ pub record Like (P : ℕ → Type 0) (p q : Progress) : Type 0 where
   pub difference : p.difference ≡ q.difference
   pub blocks : Agree P p.cells.blocks q.cells.blocks
 
-agree_after : (P : ℕ → Type 0) (out : List ℕ) (op : BlockOp) (x y : Cells) → Agree P x.blocks y.blocks → Agree P (after out op x).blocks (after out op y).blocks
-agree_after P out (Get l) x y h = h
-agree_after P out (Put l place) x y h = agree_set P x.blocks y.blocks l (out_block out place) h
+agree_after : (P : ℕ → Type 0) (out : List ℕ) (op : BlockOp) (x y : Cells) →
+    Agree P x.blocks y.blocks → Agree P (after out op x).blocks (after out op y).blocks
+agree_after P out (operations.Get l) x y h = h
+agree_after P out (operations.Look l) x y h = h
+agree_after P out (operations.Put l place) x y h = agree_set P x.blocks y.blocks l (out_block out place) h
+agree_after P out (operations.Zero l) x y h = agree_set P x.blocks y.blocks l zero_block h
+agree_after P out (operations.Compare l place) x y h = h
 
-agree_got : (P : ℕ → Type 0) (out : List ℕ) (op : BlockOp) (x y : Cells) → P (place_of op) → x.got ≡ y.got → Agree P x.blocks y.blocks → (after out op x).got ≡ (after out op y).got
-agree_got P out (Get l) x y p e h = ap (λ g. g ++ cell x.blocks l) e ∙ ap (λ c. y.got ++ c) (h.at l p)
-agree_got P out (Put l place) x y p e h = e
+agree_got : (P : ℕ → Type 0) (out : List ℕ) (op : BlockOp) (x y : Cells) →
+    P (lba_of op) → x.got ≡ y.got → Agree P x.blocks y.blocks → (after out op x).got ≡ (after out op y).got
+agree_got P out (operations.Get l) x y p e h = ap (λ g. g ++ cell x.blocks l) e ∙ ap (λ c. y.got ++ c) (h.at l p)
+agree_got P out (operations.Look l) x y p e h = e
+agree_got P out (operations.Put l place) x y p e h = e
+agree_got P out (operations.Zero l) x y p e h = e
+agree_got P out (operations.Compare l place) x y p e h = e
 
-agree_difference : (P : ℕ → Type 0) (out : List ℕ) (op : BlockOp) (x y : Cells) → P (place_of op) → Agree P x.blocks y.blocks → difference_at out op x ≡ difference_at out op y
-agree_difference P out (Get l) x y p h = refl
-agree_difference P out (Put l place) x y p h = refl
+-- the difference that an operation finds in a block, if it compares
+abbrev difference_in : List ℕ → ℕ → List ℕ → Option ℕ
+difference_in out place block = option_map (λ k. 512 * place + k) (first_difference block (out_block out place))
 
-head_used : (op : BlockOp) (ops : List BlockOp) → uses (place_of op) (op ∷ ops) ≡ true
-head_used op ops = or_left _ _ (eq-eqb (place_of op) (place_of op) refl)
+agree_difference : (P : ℕ → Type 0) (out : List ℕ) (op : BlockOp) (x y : Cells) →
+    P (lba_of op) → Agree P x.blocks y.blocks → difference_at out op x ≡ difference_at out op y
+agree_difference P out (operations.Get l) x y p h = refl
+agree_difference P out (operations.Look l) x y p h = refl
+agree_difference P out (operations.Put l place) x y p h = refl
+agree_difference P out (operations.Zero l) x y p h = refl
+agree_difference P out (operations.Compare l place) x y p h = ap (difference_in out place) (h.at l p)
+
+head_used : (op : BlockOp) (ops : List BlockOp) → uses (lba_of op) (op ∷ ops) ≡ true
+head_used op ops = or_left _ _ (eq-eqb (lba_of op) (lba_of op) refl)
 
 unless_like : (P : ℕ → Type 0) (d : Option ℕ) (x y : Cells) (p q : Progress) → x.got ≡ y.got → Agree P x.blocks y.blocks → Like P p q → Like P (unless d x p) (unless d y q)
 unless_like P None x y p q e h l = record { made = ap suc l.made; got = l.got; difference = l.difference; blocks = l.blocks }
@@ -79,83 +94,21 @@ unless_like P (Some k) x y p q e h l = record { made = refl; got = e; difference
 pub perform_like : (P : ℕ → Type 0) (out : List ℕ) (ops : List BlockOp) (x y : Cells) → ((l : ℕ) → uses l ops ≡ true → P l) → x.got ≡ y.got → Agree P x.blocks y.blocks → Like P (performed out ops x) (performed out ops y)
 perform_like P out [] x y within e h = record { made = refl; got = e; difference = refl; blocks = h }
 perform_like P out (op ∷ ops) x y within e h =
-    let here : P (place_of op) = within (place_of op) (head_used op ops) in
+    let here : P (lba_of op) = within (lba_of op) (head_used op ops) in
     let rest = perform_like P out ops (after out op x) (after out op y) (λ l u. within l (or_right _ _ u)) (agree_got P out op x y here e h) (agree_after P out op x y h) in
     subst (λ d. Like P (performed out (op ∷ ops) x) (unless d y (performed out ops (after out op y)))) (agree_difference P out op x y here h)
     (unless_like P (difference_at out op x) x y (performed out ops (after out op x)) (performed out ops (after out op y)) e h rest)
 
--- a progress, and what comes after it if it found no difference
-abbrev pub joined : Option ℕ → Progress → Progress → Progress
-joined None p q = record { made = p.made + q.made; difference = q.difference; cells = q.cells }
-joined (Some k) p q = p
-
-pub perform-append : (out : List ℕ) (xs ys : List BlockOp) (cells : Cells) → performed out (xs ++ ys) cells ≡ joined (performed out xs cells).difference (performed out xs cells) (performed out ys (performed out xs cells).cells)
-perform-append out [] ys cells =
-    let q = performed out ys cells in
-    ap (λ n. let r : Progress = record { made = n; difference = q.difference; cells = q.cells } in r) (omega arith)
-perform-append out (op ∷ xs) ys cells = go (difference_at out op cells) (perform-append out xs ys (after out op cells))
+-- where none is made there is none
+pub none_made : (out : List ℕ) (ops : List BlockOp) (cells : Cells) → (performed out ops cells).made ≡ 0 → ops ≡ []
+none_made out [] cells e = refl
+none_made out (op ∷ ops) cells e = absurd (go (difference_at out op cells) e)
   where
-    p : Progress
-    p = performed out xs (after out op cells)
+    go : (d : Option ℕ) → (unless d cells (performed out ops (after out op cells))).made ≡ 0 → ⊥
+    go None h = cc
+    go (Some k) h = cc
 
-    q : Progress
-    q = performed out ys p.cells
-
-    more : (d : Option ℕ) → one_more (joined d p q) ≡ joined d (one_more p) q
-    more None = ap (λ n. let r : Progress = record { made = n; difference = q.difference; cells = q.cells } in r) (omega arith)
-    more (Some k) = refl
-
-    go : (d : Option ℕ) → performed out (xs ++ ys) (after out op cells) ≡ joined p.difference p q → unless d cells (performed out (xs ++ ys) (after out op cells)) ≡ joined (unless d cells p).difference (unless d cells p) (performed out ys (unless d cells p).cells)
-    go None h = ap one_more h ∙ more p.difference
-    go (Some k) h = refl
-
--- nothing is made after a difference
-pub perform_stopped : (out : List ℕ) (xs ys : List BlockOp) (cells : Cells) (k : ℕ) → (performed out xs cells).difference ≡ Some k → performed out (xs ++ ys) cells ≡ performed out xs cells
-perform_stopped out xs ys cells k e = perform-append out xs ys cells ∙ ap (λ d. joined d (performed out xs cells) (performed out ys (performed out xs cells).cells)) e
-
-pub perform_on : (out : List ℕ) (xs ys : List BlockOp) (cells : Cells) → (performed out xs cells).difference ≡ None → performed out (xs ++ ys) cells ≡ joined None (performed out xs cells) (performed out ys (performed out xs cells).cells)
-perform_on out xs ys cells e = perform-append out xs ys cells ∙ ap (λ d. joined d (performed out xs cells) (performed out ys (performed out xs cells).cells)) e
-
-pub perform_done : (out : List ℕ) (ops : List BlockOp) (cells : Cells) → (performed out ops cells).difference ≡ None → (performed out ops cells).made ≡ length ops
-perform_done out [] cells e = refl
-perform_done out (op ∷ ops) cells e = go (difference_at out op cells) e (perform_done out ops (after out op cells))
-  where
-    p : Progress
-    p = performed out ops (after out op cells)
-
-    go : (d : Option ℕ) → (unless d cells p).difference ≡ None → (p.difference ≡ None → p.made ≡ length ops) → (unless d cells p).made ≡ suc (length ops)
-    go None h rec = ap suc (rec h)
-    go (Some k) h rec = absurd (cc)
-
--- where nothing differs, all are made
-pub perform_all : (out : List ℕ) (ops : List BlockOp) (cells : Cells) → (performed out ops cells).difference ≡ None → (performed out ops cells).cells ≡ after_all out ops cells
-perform_all out [] cells e = refl
-perform_all out (op ∷ ops) cells e = go (difference_at out op cells) e (perform_all out ops (after out op cells))
-  where
-    p : Progress
-    p = performed out ops (after out op cells)
-
-    go : (d : Option ℕ) → (unless d cells p).difference ≡ None → (p.difference ≡ None → p.cells ≡ after_all out ops (after out op cells)) → (unless d cells p).cells ≡ after_all out ops (after out op cells)
-    go None h rec = rec h
-    go (Some k) h rec = absurd (cc)
-
--- an operation that finds a difference changes nothing
-difference_still : (out : List ℕ) (op : BlockOp) (cells : Cells) (k : ℕ) → difference_at out op cells ≡ Some k → after out op cells ≡ cells
-difference_still out (Get l) cells k e = absurd (cc)
-difference_still out (Put l place) cells k e = absurd (cc)
-
--- what was counted was made, and nothing else
-pub made_cells : (out : List ℕ) (ops : List BlockOp) (cells : Cells) → (performed out ops cells).cells ≡ after_all out (take (performed out ops cells).made ops) cells
-made_cells out [] cells = refl
-made_cells out (op ∷ ops) cells = go (difference_at out op cells) refl (made_cells out ops (after out op cells))
-  where
-    p : Progress
-    p = performed out ops (after out op cells)
-
-    go : (d : Option ℕ) → difference_at out op cells ≡ d → p.cells ≡ after_all out (take p.made ops) (after out op cells) → (unless d cells p).cells ≡ after_all out (take (unless d cells p).made (op ∷ ops)) cells
-    go None e h = h
-    go (Some k) e h = sym (difference_still out op cells k e)
-
+-- those that were made are made again
 pub performed_made : (out : List ℕ) (ops : List BlockOp) (cells : Cells) → performed out (take (performed out ops cells).made ops) cells ≡ performed out ops cells
 performed_made out [] cells = refl
 performed_made out (op ∷ ops) cells = go (difference_at out op cells) refl (performed_made out ops (after out op cells))
@@ -167,25 +120,17 @@ performed_made out (op ∷ ops) cells = go (difference_at out op cells) refl (pe
     go None e h = ap (λ d. unless d cells (performed out (take p.made ops) (after out op cells))) e ∙ ap one_more h
     go (Some k) e h = ap (λ d. unless d cells (performed out [] (after out op cells))) e
 
-pub made_within : (out : List ℕ) (ops : List BlockOp) (cells : Cells) → (performed out ops cells).made ≤ length ops
-made_within out [] cells = omega arith
-made_within out (op ∷ ops) cells = go (difference_at out op cells) (made_within out ops (after out op cells))
-  where
-    p : Progress
-    p = performed out ops (after out op cells)
-
-    go : (d : Option ℕ) → p.made ≤ length ops → (unless d cells p).made ≤ suc (length ops)
-    go None h = omega arith
-    go (Some k) h = omega arith
-
 -- operations leave alone what they don't put
-after_elsewhere : (out : List ℕ) (op : BlockOp) (cells : Cells) (l : ℕ) (ops : List BlockOp) → puts l (op ∷ ops) ≡ false → cell (after out op cells).blocks l ≡ cell cells.blocks l
-after_elsewhere out (Get k) cells l ops e = refl
-after_elsewhere out (Put k place) cells l ops e = get_or-set_other cells.blocks k l (out_block out place) [] (λ h. both_ways (nat_eq l k) (or_parts _ _ e).0 (eq-eqb l k h))
-
-size_after : (out : List ℕ) (op : BlockOp) (cells : Cells) → length (after out op cells).blocks ≡ length cells.blocks
-size_after out (Get k) cells = refl
-size_after out (Put k place) cells = length-set cells.blocks k (out_block out place)
+after_elsewhere : (out : List ℕ) (op : BlockOp) (cells : Cells) (l : ℕ) (ops : List BlockOp) →
+    puts l (op ∷ ops) ≡ false → cell (after out op cells).blocks l ≡ cell cells.blocks l
+after_elsewhere out (operations.Get k) cells l ops e = refl
+after_elsewhere out (operations.Look k) cells l ops e = refl
+after_elsewhere out (operations.Put k place) cells l ops e =
+    get_or-set_other cells.blocks k l (out_block out place) []
+    (λ h. both_ways (nat_eq l k) (or_parts _ _ e).0 (eq-eqb l k h))
+after_elsewhere out (operations.Zero k) cells l ops e =
+    get_or-set_other cells.blocks k l zero_block [] (λ h. both_ways (nat_eq l k) (or_parts _ _ e).0 (eq-eqb l k h))
+after_elsewhere out (operations.Compare k place) cells l ops e = refl
 
 pub perform_elsewhere : (out : List ℕ) (ops : List BlockOp) (cells : Cells) (l : ℕ) → puts l ops ≡ false → cell (performed out ops cells).cells.blocks l ≡ cell cells.blocks l
 perform_elsewhere out [] cells l e = refl
@@ -198,29 +143,63 @@ perform_elsewhere out (op ∷ ops) cells l e = go (difference_at out op cells) (
     go None h = h
     go (Some k) h = refl
 
-pub perform_size : (out : List ℕ) (ops : List BlockOp) (cells : Cells) → length (performed out ops cells).cells.blocks ≡ length cells.blocks
-perform_size out [] cells = refl
-perform_size out (op ∷ ops) cells = go (difference_at out op cells) (perform_size out ops (after out op cells) ∙ size_after out op cells)
+pub perform_size : (out : List ℕ) (ops : List BlockOp) (cells : Cells) →
+    length (performed out ops cells).cells.blocks ≡ length cells.blocks
+perform_size out ops cells =
+    ap (λ (now : Cells). length now.blocks) (performed-cells out ops cells)
+    ∙ size_after_all out (take (performed out ops cells).made ops) cells
+
+-- what operations do to the blocks doesn't depend on the data so far
+after_alike : (out : List ℕ) (op : BlockOp) (x y : Cells) →
+    x.blocks ≡ y.blocks → (after out op x).blocks ≡ (after out op y).blocks
+after_alike out (operations.Get l) x y e = e
+after_alike out (operations.Look l) x y e = e
+after_alike out (operations.Put l place) x y e = ap (λ blocks. slice_set blocks l (out_block out place)) e
+after_alike out (operations.Zero l) x y e = ap (λ blocks. slice_set blocks l zero_block) e
+after_alike out (operations.Compare l place) x y e = e
+
+difference_alike : (out : List ℕ) (op : BlockOp) (x y : Cells) →
+    x.blocks ≡ y.blocks → difference_at out op x ≡ difference_at out op y
+difference_alike out (operations.Get l) x y e = refl
+difference_alike out (operations.Look l) x y e = refl
+difference_alike out (operations.Put l place) x y e = refl
+difference_alike out (operations.Zero l) x y e = refl
+difference_alike out (operations.Compare l place) x y e = ap (λ blocks. difference_in out place (cell blocks l)) e
+
+pub perform_alike : (out : List ℕ) (ops : List BlockOp) (x y : Cells) →
+    x.blocks ≡ y.blocks → (performed out ops x).cells.blocks ≡ (performed out ops y).cells.blocks
+perform_alike out [] x y e = e
+perform_alike out (op ∷ ops) x y e =
+    ap (λ d. (unless d x (performed out ops (after out op x))).cells.blocks) (difference_alike out op x y e)
+    ∙ go (difference_at out op y) (perform_alike out ops (after out op x) (after out op y) (after_alike out op x y e))
   where
     p : Progress
-    p = performed out ops (after out op cells)
+    p = performed out ops (after out op x)
 
-    go : (d : Option ℕ) → length p.cells.blocks ≡ length cells.blocks → length (unless d cells p).cells.blocks ≡ length cells.blocks
+    q : Progress
+    q = performed out ops (after out op y)
+
+    go : (d : Option ℕ) → p.cells.blocks ≡ q.cells.blocks → (unless d x p).cells.blocks ≡ (unless d y q).cells.blocks
     go None h = h
-    go (Some k) h = refl
+    go (Some k) h = e
 
-pub after_all_size : (out : List ℕ) (ops : List BlockOp) (cells : Cells) → length (after_all out ops cells).blocks ≡ length cells.blocks
-after_all_size out [] cells = refl
-after_all_size out (op ∷ ops) cells = after_all_size out ops (after out op cells) ∙ size_after out op cells
+after_all_alike : (out : List ℕ) (ops : List BlockOp) (x y : Cells) →
+    x.blocks ≡ y.blocks → (after_all out ops x).blocks ≡ (after_all out ops y).blocks
+after_all_alike out [] x y e = e
+after_all_alike out (op ∷ ops) x y e =
+    after_all_alike out ops (after out op x) (after out op y) (after_alike out op x y e)
 
 pub uses_front : (l : ℕ) (ps qs : List BlockOp) → uses l ps ≡ true → uses l (ps ++ qs) ≡ true
 uses_front l [] qs e = cc
 uses_front l (op ∷ ps) qs e =
-    ⊎_elim (λ (h : nat_eq l (place_of op) ≡ true). or_left _ _ h) (λ (h : uses l ps ≡ true). or_right (nat_eq l (place_of op)) _ (uses_front l ps qs h)) (or_cases _ _ e)
+    ⊎_elim
+    (λ (h : nat_eq l (lba_of op) ≡ true). or_left _ _ h)
+    (λ (h : uses l ps ≡ true). or_right (nat_eq l (lba_of op)) _ (uses_front l ps qs h))
+    (or_cases _ _ e)
 
 pub uses_back : (l : ℕ) (ps qs : List BlockOp) → uses l qs ≡ true → uses l (ps ++ qs) ≡ true
 uses_back l [] qs e = e
-uses_back l (op ∷ ps) qs e = or_right (nat_eq l (place_of op)) _ (uses_back l ps qs e)
+uses_back l (op ∷ ps) qs e = or_right (nat_eq l (lba_of op)) _ (uses_back l ps qs e)
 
 pub puts_back : (l : ℕ) (ps qs : List BlockOp) → puts l (ps ++ qs) ≡ false → puts l qs ≡ false
 puts_back l [] qs e = e
@@ -232,11 +211,15 @@ puts_front l (op ∷ ps) qs e = let h = or_parts _ _ e in let r = puts_front l p
 
 pub uses_put : (l : ℕ) (ops : List BlockOp) → puts l ops ≡ true → uses l ops ≡ true
 uses_put l [] e = e
-uses_put l (op ∷ ops) e = ⊎_elim (λ h. or_left _ _ (by op h)) (λ h. or_right (nat_eq l (place_of op)) _ (uses_put l ops h)) (or_cases _ _ e)
+uses_put l (op ∷ ops) e =
+    ⊎_elim (λ h. or_left _ _ (by op h)) (λ h. or_right (nat_eq l (lba_of op)) _ (uses_put l ops h)) (or_cases _ _ e)
   where
-    by : (o : BlockOp) → cond (is_put o) (nat_eq l (place_of o)) false ≡ true → nat_eq l (place_of o) ≡ true
-    by (Get k) h = cc
-    by (Put k place) h = h
+    by : (o : BlockOp) → cond (is_put o) (nat_eq l (lba_of o)) false ≡ true → nat_eq l (lba_of o) ≡ true
+    by (operations.Get k) h = cc
+    by (operations.Look k) h = cc
+    by (operations.Put k place) h = h
+    by (operations.Zero k) h = h
+    by (operations.Compare k place) h = cc
 
 pub unused_put : (l : ℕ) (ops : List BlockOp) → uses l ops ≡ false → puts l ops ≡ false
 unused_put l ops e = go (puts l ops) refl
@@ -264,28 +247,15 @@ first_puts_front (op ∷ ps) qs = go (is_put op) refl (first_puts_front ps qs)
     go true e h = ap (λ u. cond u (op ∷ first_puts (puts_among ps) (ps ++ qs)) (first_puts (suc (puts_among ps)) (ps ++ qs))) e ∙ ap (λ l. op ∷ l) h
     go false e h = first_puts_skip (puts_among ps) op (ps ++ qs) e ∙ h
 
--- the blocks after puts, without data
-abbrev put_one : List ℕ → BlockOp → List (List ℕ) → List (List ℕ)
-put_one out (Get lba) blocks = blocks
-put_one out (Put lba place) blocks = slice_set blocks lba (out_block out place)
-
-abbrev put_all : List ℕ → List BlockOp → List (List ℕ) → List (List ℕ)
-put_all out [] blocks = blocks
-put_all out (op ∷ ops) blocks = put_all out ops (put_one out op blocks)
-
-one_put : (out : List ℕ) (op : BlockOp) (cells : Cells) → (after out op cells).blocks ≡ put_one out op cells.blocks
-one_put out (Get l) cells = refl
-one_put out (Put l place) cells = refl
-
-all_put : (out : List ℕ) (ops : List BlockOp) (cells : Cells) → (after_all out ops cells).blocks ≡ put_all out ops cells.blocks
-all_put out [] cells = refl
-all_put out (op ∷ ops) cells = all_put out ops (after out op cells) ∙ ap (put_all out ops) (one_put out op cells)
-
-put_all-only_puts : (out : List ℕ) (ops : List BlockOp) (blocks : List (List ℕ)) → put_all out (only_puts ops) blocks ≡ put_all out ops blocks
-put_all-only_puts out [] blocks = refl
-put_all-only_puts out (Get l ∷ ops) blocks = put_all-only_puts out ops blocks
-put_all-only_puts out (Put l place ∷ ops) blocks = put_all-only_puts out ops (put_one out (Put l place) blocks)
-
 -- the puts alone leave the same blocks
-pub only_puts_blocks : (out : List ℕ) (ops : List BlockOp) (cells : Cells) → (after_all out (only_puts ops) cells).blocks ≡ (after_all out ops cells).blocks
-only_puts_blocks out ops cells = all_put out (only_puts ops) cells ∙ put_all-only_puts out ops cells.blocks ∙ sym (all_put out ops cells)
+pub only_puts_blocks : (out : List ℕ) (ops : List BlockOp) (cells : Cells) →
+    (after_all out (only_puts ops) cells).blocks ≡ (after_all out ops cells).blocks
+only_puts_blocks out [] cells = refl
+only_puts_blocks out (operations.Get l ∷ ops) cells =
+    only_puts_blocks out ops cells ∙ after_all_alike out ops cells (after out (operations.Get l) cells) refl
+only_puts_blocks out (operations.Look l ∷ ops) cells = only_puts_blocks out ops cells
+only_puts_blocks out (operations.Put l place ∷ ops) cells =
+    only_puts_blocks out ops (after out (operations.Put l place) cells)
+only_puts_blocks out (operations.Zero l ∷ ops) cells =
+    only_puts_blocks out ops (after out (operations.Zero l) cells)
+only_puts_blocks out (operations.Compare l place ∷ ops) cells = only_puts_blocks out ops cells

@@ -84,7 +84,8 @@ record Came_so (o : Opening) (journal : List Logged) (n : ℕ) (node : Node) (w 
 
 came : (o : Opening) (s : State) (journal : List Logged) (node : Node) (w : KeptWork) → Now NoneDue o s journal → Came_so o journal (next_number s) node w (writes (arrived (next_number s) node w) s)
 came o s journal node w h = record {
-  now = wrote NoneDue NoneDue o s next journal e h state (came_so NoneDue o s journal n node w after_it.0 (sent_if node n w s.to_a) refl h.inv (comes node refl));
+  now = wrote NoneDue o s next journal e h.at state
+      (came_so NoneDue o s journal n node w after_it.0 (sent_if node n w s.to_a) refl h.inv (comes node refl));
   came = ap (λ (t : State). numbered n t.arrivals) state ∙ numbered_last n s.arrivals (record { node = node; work = w }) refl;
   fresh = λ k. subst (λ (t : State). Fresh t (journal ++ e ∷ []) n) (sym state) (record {
     untouched = untouched;
@@ -252,7 +253,8 @@ comes_to_a laws o s journal m ms to h = then_so NoneDue o journal first (coming_
     left = delivered_so NoneDue o (record s { to_a = ms }) journal A m.kind m.no (popped_a NoneDue o s journal m ms to h.inv)
 
     quietly : is_end m.kind ≡ false → Now NoneDue o t (journal ++ e ∷ [])
-    quietly no_end = wrote NoneDue NoneDue o s (record s { to_a = ms }) journal e h (after_a m.kind m.no m ms s no_end to) left
+    quietly no_end = wrote NoneDue o s (record s { to_a = ms }) journal e h.at
+        (after_a m.kind m.no m ms s no_end to) left
 
     stays : is_end m.kind ≡ false → After NoneDue o (journal ++ e ∷ []) (nothing t)
     stays no_end = stays_so NoneDue o t (journal ++ e ∷ []) (quietly no_end)
@@ -279,7 +281,7 @@ comes_to_a laws o s journal m ms to h = then_so NoneDue o journal first (coming_
     gone is =
         let over : has (is_entry m.no) journal ≡ true = h.inv.frame.opens.gone m.no (subst (λ q. Sent is_end m.no q) (sym to) (inl (is, refl))) in
         let over' : has (is_entry m.no) (journal ++ e ∷ []) ≡ true = has_stays (is_entry m.no) journal e over in
-        wrote NoneDue NoneDue o s (gone_at_b m.no (record s { to_a = ms })) journal e h (after_end m.kind m.no m ms s is to)
+        wrote NoneDue o s (gone_at_b m.no (record s { to_a = ms })) journal e h.at (after_end m.kind m.no m ms s is to)
         (awaited_so NoneDue o (record s { to_a = ms; tasks = without_task m.no s.tasks }) (journal ++ e ∷ []) m.no over' (gone_so NoneDue o (record s { to_a = ms }) (journal ++ e ∷ []) m.no over' left))
 
     closes : is_end m.kind ≡ true → After NoneDue o (journal ++ e ∷ []) (closing_all (open_numbers t) t)
@@ -333,7 +335,10 @@ granted_so P o s journal x hx st h = record {
   cells = record {
     blocks = h.cells.blocks;
     gained = λ y hy alive. ⊎_elim
-        (λ (k : at_stage (There 0 []) x ≡ y). subst (λ (z : Task). Gained (beside o z.no journal) (got_at z.stage)) k (subst (λ (stage : Stage). Gained (beside o x.no journal) (got_at stage)) st (h.cells.gained x hx (ap is_over st))))
+        (λ (k : at_stage (There 0 []) x ≡ y).
+        subst (λ (z : Task). Gained (beside o z.no journal) None (got_at z.stage)) k
+        (subst (λ (stage : Stage). Gained (beside o x.no journal) None (got_at stage)) st
+        (h.cells.gained x hx (ap is_over st))))
         (λ (k : Has s.tasks y × (y.no ≡ x.no → ⊥)). h.cells.gained y k.0 alive)
         (has_with (at_stage (There 0 []) x) s.tasks y hy);
     ungained = h.cells.ungained;
@@ -388,13 +393,15 @@ comes_to_b laws o s journal m ms to h = then_so NoneDue o journal first (coming_
     stays now = stays_so NoneDue o t (journal ++ e ∷ []) now
 
     quietly : is_grant_kind m.kind ≡ false → Now NoneDue o t (journal ++ e ∷ [])
-    quietly no_grant = wrote NoneDue NoneDue o s (record s { to_b = ms }) journal e h (after_b m.kind m.no m ms s no_grant to) left
+    quietly no_grant = wrote NoneDue o s (record s { to_b = ms }) journal e h.at
+        (after_b m.kind m.no m ms s no_grant to) left
 
     grants : m.kind ≡ kind.Grant → Now NoneDue o t (journal ++ e ∷ [])
     grants k = found (task_of m.no s.tasks) refl
       where
         grant : (q : State) → after s (told (event.Deliver B kind.Grant m.no)) ≡ q → Inv NoneDue o q (journal ++ e ∷ []) → Now NoneDue o t (journal ++ e ∷ [])
-        grant q state inv = wrote NoneDue NoneDue o s q journal e h (ap (λ i. after s (told (event.Deliver B i m.no))) k ∙ state) inv
+        grant q state inv = wrote NoneDue o s q journal e h.at
+            (ap (λ i. after s (told (event.Deliver B i m.no))) k ∙ state) inv
 
         none : ((x : Task) → task_of m.no s.tasks ≡ Some x → x.stage ≡ Granted → ⊥) → Now NoneDue o t (journal ++ e ∷ [])
         none f = grant (record s { to_b = ms }) (after_no_grant m.no m ms s to f) left
@@ -442,7 +449,8 @@ comes_to_b laws o s journal m ms to h = then_so NoneDue o journal first (coming_
             (by_so NoneDue o t j x m.by asked.node was.0.ask m.told now.inv hx.0 (ap is_over st)
             (subst (λ n. numbered n t.arrivals ≡ Some (record { node = asked.node; work = work.Ask was.0.ask })) was.2 asked.came) was.4
             (subst (λ n. has (is_asked n) j ≡ true) was.2 asked.asking) (subst (λ n. has (is_entry n) j ≡ false) was.2 asked.entry)) in
-            wrote NoneDue NoneDue o t (over_at_b kind.Stopped x (record t { functions = noted m.by x.no t.functions })) j l now
+            wrote NoneDue o t (over_at_b kind.Stopped x (record t { functions = noted m.by x.no t.functions }))
+            j l now.at
             (after_stopped x (puts_of x t) m.by m.told d g t (found_of t.tasks x now.inv.rules.single hx.0) st)
             (tells_so NoneDue o t (j ++ l ∷ []) x kind.Stopped (noted m.by x.no t.functions) t.control t.blocks refl (has_now (is_entry x.no) j l (eq-eqb x.no x.no refl)) over)
 

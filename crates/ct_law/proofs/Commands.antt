@@ -17,12 +17,11 @@ use Rattle.ct_sense.specs.declared.reply.Reply.{Reply}
 use Rattle.ct_tmf.specs.declared.function.Ask.{Ask}
 use Rattle.ct_tmf.specs.Reaches.{hits}
 use Rattle.ct_plan.specs.declared.operation.BlockOp.{BlockOp}
-use Rattle.ct_plan.specs.declared.operation.BlockOp.TheVariants.{Get, Put}
 use Rattle.ct_plan.specs.Plans as plans
 use Rattle.ct_plan.specs.Plans.{operations_of, plan_of}
-use Rattle.ct_plan.specs.Cells.{Cells, Progress, after, after_all, performed}
+use Rattle.ct_plan.specs.Cells.{Progress, performed}
 use Rattle.ct_plan.specs.Effects.{written_disk, data_in}
-use Rattle.ct_plan.proofs.Cuts.{whole_plan}
+use Rattle.ct_plan.proofs.Cuts.{whole_progress}
 use Rattle.ct_matrix.specs.declared.cells.Action.{Action}
 use Rattle.ct_matrix.specs.declared.cells.Action.TheVariants as action
 use Rattle.ct_matrix.specs.declared.held.Held.{Held}
@@ -33,7 +32,7 @@ use Rattle.ct_book.specs.declared.work.Command.{Command}
 use Rattle.ct_exec.specs.Controls.{ControlState, Disk, closing_control}
 use Rattle.ct_exec.specs.Executions.{Execution, good, illegal_request, refusal_by, refusal_of, refused_control, effect_of, executed, execute, plan_by, plan_in, reply_moved}
 use Rattle.ct_machine.specs.States.{held_by, index_by, print_by}
-use Rattle.ct_law.proofs.Blocks.{uses, puts, start, perform_all, perform_size}
+use Rattle.ct_law.proofs.Blocks.{uses, puts, start, perform_size}
 use Rattle.ct_law.proofs.Laws.{Apart, operated, IsOnce, Same, Laws}
 
 -- Apart
@@ -154,12 +153,6 @@ apart_law n a b x y e = plans_apart n (length a.out) (length b.out) (cdb_of a.cd
 
 -- Whole
 
--- gets and puts find no difference
-pub no_difference : (out : List ℕ) (ops : List BlockOp) (cells : Cells) → (performed out ops cells).difference ≡ None
-no_difference out [] cells = refl
-no_difference out (Get l ∷ ops) cells = no_difference out ops (after out (Get l) cells)
-no_difference out (Put l place ∷ ops) cells = no_difference out ops (after out (Put l place) cells)
-
 -- a command that nothing refuses is performed
 unrefused : (control : ControlState) (n out : ℕ) (cdb : Cdb) → refusal_by control n out (Ok cdb) ≡ None → is_performed out n cdb.op ≡ true
 unrefused control n out cdb e = go (nat_lt out (data_length cdb.op)) (is_inside n cdb.op) e
@@ -169,23 +162,27 @@ unrefused control n out cdb e = go (nat_lt out (data_length cdb.op)) (is_inside 
     go false true e = refl
     go false false e = absurd (cc)
 
-operated_is : (disk : Disk) (c : Command) (ops : List BlockOp) (blocks : List (List ℕ)) (got : List ℕ) → ◌≡◌ {A = Cells} (after_all c.out ops (start disk.blocks)) (record { blocks = blocks; got = got }) →
-    ◌≡◌ {A = Execution} (record { disk = record { control = disk.control; blocks = blocks }; reply = good got; cleared = no_nexuses }) (operated disk c ops)
-operated_is disk c ops blocks got e =
-    let p : Progress = performed c.out ops (start disk.blocks) in
-    let none : p.difference ≡ None = no_difference c.out ops (start disk.blocks) in
-    let cells : p.cells ≡ record { blocks = blocks; got = got } = perform_all c.out ops (start disk.blocks) none ∙ e in
-    λ i. record {
-      disk = record { control = disk.control; blocks = (sym cells i).blocks };
-      reply = reply_moved disk.control (sym none i) (sym cells i).got;
+operated_is : (disk : Disk) (c : Command) (ops : List BlockOp) (made : ℕ) (blocks : List (List ℕ)) (got : List ℕ) →
+    ◌≡◌ {A = Progress} (performed c.out ops (start disk.blocks))
+    (record { made = made; difference = None; cells = record { blocks = blocks; got = got } }) →
+    ◌≡◌ {A = Execution}
+    (record { disk = record { control = disk.control; blocks = blocks }; reply = good got; cleared = no_nexuses })
+    (operated disk c ops)
+operated_is disk c ops made blocks got e = sym (ap as_made e)
+  where
+    as_made : Progress → Execution
+    as_made p = record {
+      disk = record { control = disk.control; blocks = p.cells.blocks };
+      reply = reply_moved disk.control p.difference p.cells.got;
       cleared = no_nexuses;
     }
 
 effect_is : (disk : Disk) (c : Command) (r : Result Cdb CdbFault) → refusal_by disk.control (length disk.blocks) (length c.out) r ≡ None → effect_of disk c r ≡ operated disk c (plan_by (length disk.blocks) (length c.out) r)
 effect_is disk c (Err f) e = absurd (cc)
 effect_is disk c (Ok cdb) e =
-    operated_is disk c (plan_of (length c.out) (length disk.blocks) cdb.op) (written_disk cdb.op c.out disk.blocks) (data_in cdb.op disk.blocks)
-    (whole_plan cdb.op c.out disk.blocks (unrefused disk.control (length disk.blocks) (length c.out) cdb e))
+    let ops = plan_of (length c.out) (length disk.blocks) cdb.op in
+    operated_is disk c ops (length ops) (written_disk cdb.op c.out disk.blocks) (data_in cdb.op disk.blocks)
+    (whole_progress cdb.op c.out disk.blocks (unrefused disk.control (length disk.blocks) (length c.out) cdb e))
 
 whole_any : (disk : Disk) (c : Command) → refusal_of disk.control (length disk.blocks) c ≡ None → execute disk c ≡ operated disk c (plan_in (length disk.blocks) c)
 unfolding execute refusal_of plan_in

@@ -13,11 +13,12 @@ use Rattle.ct_machine.specs.Events.{further, moved_from}
 use Rattle.ct_machine.specs.Serial.{first_puts, cut_disk}
 use Rattle.ct_machine.specs.Laws.{goes_first}
 use Rattle.ct_law.proofs.Tasks.{Has, precedes}
-use Rattle.ct_law.proofs.Blocks.{cell, puts, start, Like, perform_size, perform_elsewhere, perform_all, unused_put, puts_front, only_puts, first_puts_front, only_puts_blocks, after_all_size}
+use Rattle.ct_plan.proofs.Performing.{performed-all, size_after_all}
+use Rattle.ct_law.proofs.Blocks.{cell, puts, start, Like, perform_size, perform_elsewhere, unused_put, puts_front, only_puts, first_puts_front, only_puts_blocks}
 use Rattle.ct_law.proofs.Laws.{Laws, Apart, has_operations, operated, IsOnce, Same}
 use Rattle.ct_law.proofs.Ready.{IsReady, free_of, undemanded, undemanded_must}
 use Rattle.ct_law.proofs.Held.{Uses, Running, IsRunning, IsSingle, Holds, Rules, is_active, moves_to, rules_turn, rules_stay, not_put, turned}
-use Rattle.ct_law.proofs.Execs.{made_all, then', then_size, then_elsewhere, done_is, runs_on, seen_whole, seen_difference}
+use Rattle.ct_law.proofs.Execs.{made_all, later, then', then_size, then_elsewhere, done_is, runs_on, seen_whole, seen_difference}
 
 -- what a cut command has put is what its operations have put
 pub cut_blocks : (n : ℕ) (disk : Disk) (blocks : List (List ℕ)) (c : Command) (done : ℕ) (got : List ℕ) (run : Running n disk blocks c done got) → length disk.blocks ≡ n →
@@ -31,7 +32,8 @@ cut_blocks n disk blocks c done got run sized =
     ∙ first_puts_front run.before run.rest in
     ap (λ ops. (after_all c.out ops (start disk.blocks)).blocks) some
     ∙ only_puts_blocks c.out run.before (start disk.blocks)
-    ∙ sym (ap (λ (cells : Cells). cells.blocks) (perform_all c.out run.before (start disk.blocks) (sym run.seen.difference)))
+    ∙ sym (ap (λ (p : Progress). p.cells.blocks)
+    (performed-all c.out run.before (start disk.blocks) (sym run.seen.difference)))
 
 running_done : (n : ℕ) (disk : Disk) (blocks : List (List ℕ)) (c : Command) (stage : Stage) → IsRunning n disk blocks c stage → is_active stage ≡ true → (got : List ℕ) × Running n disk blocks c (done_at stage) got
 running_done n disk blocks c Waiting h a = absurd (cc)
@@ -96,7 +98,7 @@ cut_held n disk blocks tasks x sized h single hx = ⊎_elim (cut_active n disk b
 
 -- a cut leaves the list as long
 pub cut_size : (count : ℕ) (c : Command) (disk : Disk) → length (cut_disk count c disk).blocks ≡ length disk.blocks
-cut_size count c disk = after_all_size c.out (first_puts count (plan_in (length disk.blocks) c)) (start disk.blocks)
+cut_size count c disk = size_after_all c.out (first_puts count (plan_in (length disk.blocks) c)) (start disk.blocks)
 
 -- the rules after any cut
 pub cut_rules : (n count : ℕ) (disk : Disk) (now : ControlState) (tasks : List Task) (x : Task) → Rules n disk now tasks → Has tasks x → Rules n (cut_disk count x.command disk) now (with_task (at_stage Over x) tasks)
@@ -324,15 +326,28 @@ moved_held n disk blocks tasks x count done got h single hx at e =
       whole = λ k. refl;
     })
 
--- the state after an event that counts the operations that were made
+-- how far a command comes by at most so many operations, counted from these on, and from its first on
+abbrev pub comes_on : State → Task → ℕ → ℕ → List ℕ → Progress
+comes_on s x count done got =
+    performed x.command.out (take count (drop done (plan_in (length s.blocks) x.command)))
+    (record { blocks = s.blocks; got = got })
+
+abbrev pub comes_to : State → Task → ℕ → ℕ → List ℕ → Progress
+comes_to s x count done got = later done (comes_on s x count done got)
+
+-- the state in which a command came so far
+abbrev pub moved_state : State → Task → Progress → State
+moved_state s x p = record s {
+  tasks = with_task (at_stage (further x.stage p.made p.cells.got) x) s.tasks;
+  blocks = p.cells.blocks;
+}
+
+-- it is the one after an event that counts the operations that were made
 pub moved_is : (x : Task) (count done : ℕ) (got : List ℕ) (s : State) →
-    moved_from x (performed x.command.out (take count (drop done (plan_in (length s.blocks) x.command))) (record { blocks = s.blocks; got = got })).made done got s
-    ≡ record s {
-      tasks = with_task (at_stage (further x.stage (then' (length s.blocks) s.blocks x.command count done got).made (then' (length s.blocks) s.blocks x.command count done got).cells.got) x) s.tasks;
-      blocks = (then' (length s.blocks) s.blocks x.command count done got).cells.blocks;
-    }
+    moved_from x (comes_on s x count done got).made done got s ≡ moved_state s x (comes_to s x count done got)
 moved_is x count done got s =
     let ops : List BlockOp = drop done (plan_in (length s.blocks) x.command) in
     let here : Cells = record { blocks = s.blocks; got = got } in
-    let p : Progress = performed x.command.out (take count ops) here in
-    ap (λ (cells : Cells). record s { tasks = with_task (at_stage (further x.stage (done + p.made) cells.got) x) s.tasks; blocks = cells.blocks }) (sym (made_all x.command.out count ops here))
+    let made : ℕ = done + (comes_on s x count done got).made in
+    ap (λ (cells : Cells). moved_state s x (record { made = made; difference = None; cells = cells }))
+    (sym (made_all x.command.out count ops here))

@@ -1,5 +1,5 @@
 -- Entries: a work is done, and its command leaves the task set at once, or when A is told.
-use Rattle.std.proofs.Common.{◌≡◌, ℕ, ◌≤◌, ◌<◌, ◌⊎◌, inl, Bool, true, false, List, [], ◌∷◌, ◌++◌, Some, None, length, refl, sym, ap, ◌∙◌, subst, ⊎_elim, arith, nat_eq, eqb-true, eq-eqb, ne_eqb, cond}
+use Rattle.std.proofs.Common.{◌≡◌, ℕ, ◌≤◌, ◌<◌, ◌⊎◌, inl, true, false, List, [], ◌∷◌, ◌++◌, Some, None, length, refl, sym, ap, ◌∙◌, subst, ⊎_elim, arith, eqb-true, ne_eqb}
 use Rattle.std.proofs.lemmas.Bool.{both_ways, or_right}
 use Rattle.ct_sense.specs.declared.reply.Reply.{Reply}
 use Rattle.ct_book.specs.declared.event.Event.{Event}
@@ -13,6 +13,7 @@ use Rattle.ct_machine.specs.Events.{message}
 use Rattle.ct_machine.specs.Serial.{disk_after, serial_disk}
 use Rattle.ct_machine.specs.Laws.{has, is_entry, is_enter, IsRestricted}
 use Rattle.ct_law.proofs.Tasks.{Has, has_without, has_with}
+use Rattle.ct_law.proofs.Changed.{without_with}
 use Rattle.ct_law.proofs.Held.{Rules, Holds, is_active, rules_removes, removes}
 use Rattle.ct_law.proofs.Journal.{each_more, has_same, Untouched, IsOf}
 use Rattle.ct_law.proofs.Growing.{works_in-none, serial-more}
@@ -20,7 +21,7 @@ use Rattle.ct_law.proofs.Messages.{is_arrival, is_end, sent_push}
 use Rattle.ct_law.proofs.Books.{IsAsk, IsFresh, is_over, books_tell, books_turns, books_removes, books_function}
 use Rattle.ct_law.proofs.Orders.{orders_event, orders_turns, orders_removes}
 use Rattle.ct_law.proofs.Opens.{Opens, HasOpen, WasActive, Begins, opens_event, opens_queue, opens_a}
-use Rattle.ct_law.proofs.Inv.{LawfulAt, Frame, Inv, replied, is_move, restricted_before, serial-same, cells_event, cells_quiet}
+use Rattle.ct_law.proofs.Inv.{LawfulAt, Frame, Others, Inv, replied, is_move, restricted_before, serial-same, cells_event, cells_quiet}
 use Rattle.ct_machine.specs.Laws.{IsTurnedFor}
 use Rattle.ct_law.proofs.Steps.{rules_same, holds_same}
 
@@ -54,16 +55,6 @@ turned_so P o s journal n reply h u new within cause other closed = record {
     e = replied (event.Turned n) reply
 
 -- a command that has its entry leaves
-
-without_with : (n : ℕ) (w : Task) (q : List Task) → w.no ≡ n → without_task n (with_task w q) ≡ without_task n q
-without_with n w [] e = refl
-without_with n w (y ∷ ys) e = go (nat_eq y.no w.no) refl (without_with n w ys e)
-  where
-    go : (t : Bool) → nat_eq y.no w.no ≡ t → without_task n (with_task w ys) ≡ without_task n ys → without_task n (cond t w y ∷ with_task w ys) ≡ without_task n (y ∷ ys)
-    go true a ih =
-        ap (λ b. cond b (without_task n (with_task w ys)) (w ∷ without_task n (with_task w ys))) (eq-eqb w.no n e) ∙ ih
-        ∙ sym (ap (λ b. cond b (without_task n ys) (y ∷ without_task n ys)) (eq-eqb y.no n (eqb-true y.no w.no a ∙ e)))
-    go false a ih = ap (λ l. cond (nat_eq y.no n) l (y ∷ l)) ih
 
 pub entry_over : (P : ℕ → ℕ → Type 0) (o : Opening) (s : State) (journal : List Logged) → Frame P o s journal → (x : Task) → Has s.tasks x → has (is_entry x.no) journal ≡ true → is_over x.stage ≡ true
 entry_over P o s journal h x hx e = sym (h.books.entry x hx) ∙ e
@@ -141,8 +132,15 @@ pub record Over_by (P : ℕ → ℕ → Type 0) (o : Opening) (s : State) (journ
 abbrev pub over_state : State → Task → List Open → ControlState → List (List ℕ) → State
 over_state s x functions control blocks = record s { tasks = with_task (at_stage Over x) s.tasks; functions = functions; control = control; blocks = blocks }
 
-pub entry_so : (P : ℕ → ℕ → Type 0) (o : Opening) (s : State) (journal : List Logged) (x : Task) (e : Logged) (functions : List Open) (control : ControlState) (blocks : List (List ℕ)) → Inv P o s journal → Has s.tasks x → is_over x.stage ≡ false →
-    Over_by P o s journal x e functions control blocks → Inv P o (over_state s x functions control blocks) (journal ++ e ∷ [])
+-- where nothing else changes
+abbrev pub over_alone : State → Task → State
+over_alone s x = over_state s x s.functions s.control s.blocks
+
+pub entry_so : (P : ℕ → ℕ → Type 0) (o : Opening) (s : State) (journal : List Logged) (x : Task) (e : Logged)
+    (functions : List Open) (control : ControlState) (blocks : List (List ℕ)) →
+    Others P o s journal x.no → Has s.tasks x → is_over x.stage ≡ false →
+    Over_by P o s journal x e functions control blocks →
+    Inv P o (over_state s x functions control blocks) (journal ++ e ∷ [])
 entry_so P o s journal x e functions control blocks h hx alive v = record {
   frame = record {
     each = each_more (LawfulAt o) [] journal e h.frame.each v.lawful;
@@ -154,12 +152,12 @@ entry_so P o s journal x e functions control blocks h hx alive v = record {
     opens = opens_turns P (journal ++ e ∷ []) s.arrivals s.tasks functions s.to_a s.to_b x Over hx (λ a. absurd (cc)) v.opens;
   };
   rules = subst (λ d. Rules o.blocks d control (with_task (at_stage Over x) s.tasks)) (sym (serial-more o journal e)) v.rules;
-  cells = cells_event o s (over_state s x functions control blocks) journal e h.cells v.no_move v.blocks_same
+  cells = cells_event o s (over_state s x functions control blocks) journal e v.no_move v.blocks_same h.blocks
       (λ y m k. ⊎_elim
       (λ (w : at_stage Over x ≡ y). absurd (both_ways (is_over y.stage) k (subst (λ (z : Task). is_over z.stage ≡ true) w refl)))
-      (λ (w : Has s.tasks y × (y.no ≡ x.no → ⊥)). inl (record { task = y; has = w.0; no = refl; alive = k; got = refl }))
+      (λ (w : Has s.tasks y × (y.no ≡ x.no → ⊥)). h.gained y w.0 w.1 k)
       (has_with (at_stage Over x) s.tasks y m))
-      (λ m k. sym (has_same (is_enter m) journal e (v.own.enters m)) ∙ k);
+      (λ m k. h.ungained m (sym (has_same (is_enter m) journal e (v.own.enters m)) ∙ k));
   holds = λ r. subst (λ d. Holds o.blocks d blocks (with_task (at_stage Over x) s.tasks)) (sym (serial-more o journal e)) (v.holds (restricted_before o journal e r));
 }
 

@@ -4,12 +4,14 @@ use Rattle.std.proofs.lemmas.List.{take-take, take_all}
 use Rattle.std.proofs.lemmas.Option.{slice_get_within}
 use Rattle.std.proofs.lemmas.Bool.{cases_lt}
 use Rattle.ct_plan.specs.declared.operation.BlockOp.{BlockOp}
-use Rattle.ct_plan.specs.Cells.{Cells, Progress, after_all, performed}
+use Rattle.ct_plan.specs.Cells.{Cells, Progress, after_all, performed, joined_where}
 use Rattle.ct_book.specs.declared.work.Command.{Command}
 use Rattle.ct_exec.specs.Controls.{Disk}
 use Rattle.ct_exec.specs.Executions.{plan_in}
 use Rattle.ct_plan.specs.Pieces.{tried}
-use Rattle.ct_law.proofs.Blocks.{cell, uses, puts, start, Like, perform_like, perform_elsewhere, perform_size, perform_on, perform_stopped, perform_done, joined, made_cells, performed_made, made_within, uses_front, uses_back, puts_front, puts_back}
+use Rattle.ct_plan.proofs.Lists.{slice_get-drop}
+use Rattle.ct_plan.proofs.Performing.{performed-on, performed-stopped, performed-all, performed-cells, made_within}
+use Rattle.ct_law.proofs.Blocks.{cell, uses, puts, start, Like, perform_like, perform_elsewhere, perform_size, performed_made, uses_front, uses_back, puts_front, puts_back}
 use Rattle.ct_law.proofs.Held.{Uses, Running}
 
 -- a command before more operations, and after them
@@ -32,8 +34,12 @@ take_fewer : (m k : ℕ) (ops : List BlockOp) → m ≤ length (take k ops) → 
 take_fewer m k ops le = take-take m k ops (let e = length-take k ops in omega (arith, e, le))
 
 -- the operations that were counted are those that were made
-pub made_all : (out : List ℕ) (k : ℕ) (ops : List BlockOp) (cells : Cells) → (performed out (take k ops) cells).cells ≡ after_all out (take (performed out (take k ops) cells).made ops) cells
-made_all out k ops cells = made_cells out (take k ops) cells ∙ ap (λ l. after_all out l cells) (take_fewer (performed out (take k ops) cells).made k ops (made_within out (take k ops) cells))
+pub made_all : (out : List ℕ) (k : ℕ) (ops : List BlockOp) (cells : Cells) →
+    (performed out (take k ops) cells).cells ≡ after_all out (take (performed out (take k ops) cells).made ops) cells
+made_all out k ops cells =
+    let made : ℕ = (performed out (take k ops) cells).made in
+    performed-cells out (take k ops) cells
+    ∙ ap (λ l. after_all out l cells) (take_fewer made k ops (made_within out (take k ops) cells))
 
 pub made_again : (out : List ℕ) (k : ℕ) (ops : List BlockOp) (cells : Cells) → performed out (take (performed out (take k ops) cells).made ops) cells ≡ performed out (take k ops) cells
 made_again out k ops cells = ap (λ l. performed out l cells) (sym (take_fewer (performed out (take k ops) cells).made k ops (made_within out (take k ops) cells))) ∙ performed_made out (take k ops) cells
@@ -44,23 +50,22 @@ slice_get_take (suc k) [] i x e = e
 slice_get_take (suc k) (y ∷ ys) zero x e = e
 slice_get_take (suc k) (y ∷ ys) (suc i) x e = slice_get_take k ys i x e
 
-slice_get_drop : (d : ℕ) (xs : List BlockOp) (i : ℕ) → slice_get (drop d xs) i ≡ slice_get xs (d + i)
-slice_get_drop zero xs i = ap (slice_get xs) (omega arith)
-slice_get_drop (suc d) [] i = refl
-slice_get_drop (suc d) (y ∷ ys) i = let e : suc (d + i) ≡ suc d + i = omega arith in slice_get_drop d ys i ∙ ap (slice_get (y ∷ ys)) e
-
 -- where the medium fails an operation, it is the next of the plan
 pub failed_at : (out : List ℕ) (plan : List BlockOp) (count done fault : ℕ) (cells : Cells) (op : BlockOp) → slice_get (take count (drop done plan)) fault ≡ Some op →
     (performed out (take fault (take count (drop done plan))) cells).difference ≡ None → slice_get plan (done + (performed out (take fault (take count (drop done plan))) cells).made) ≡ Some op
 failed_at out plan count done fault cells op e none =
     let ops = take count (drop done plan) in
-    let made = perform_done out (take fault ops) cells none in
+    let made = ap (λ (p : Progress). p.made) (performed-all out (take fault ops) cells none) in
     let size = length-take fault ops in
     let within = slice_get_within ops fault op e in
-    ap (λ m. slice_get plan (done + m)) (omega (arith, made, size, within)) ∙ sym (slice_get_drop done plan fault) ∙ slice_get_take count (drop done plan) fault op e
+    ap (λ m. slice_get plan (done + m)) (omega (arith, made, size, within))
+    ∙ sym (slice_get-drop done plan fault) ∙ slice_get_take count (drop done plan) fault op e
 
-pub done_is : (n : ℕ) (disk : Disk) (blocks : List (List ℕ)) (c : Command) (done : ℕ) (got : List ℕ) (run : Running n disk blocks c done got) → length run.before ≡ done
-done_is n disk blocks c done got run = sym (run.seen.made ∙ perform_done c.out run.before (start disk.blocks) (sym run.seen.difference))
+pub done_is : (n : ℕ) (disk : Disk) (blocks : List (List ℕ)) (c : Command) (done : ℕ) (got : List ℕ)
+    (run : Running n disk blocks c done got) → length run.before ≡ done
+done_is n disk blocks c done got run =
+    let all = performed-all c.out run.before (start disk.blocks) (sym run.seen.difference) in
+    sym (run.seen.made ∙ ap (λ (p : Progress). p.made) all)
 
 pub rest_is : (n : ℕ) (disk : Disk) (blocks : List (List ℕ)) (c : Command) (done : ℕ) (got : List ℕ) (run : Running n disk blocks c done got) → drop done (plan_in n c) ≡ run.rest
 rest_is n disk blocks c done got run = ap (drop done) (sym run.parts) ∙ drop_at run.before run.rest done (done_is n disk blocks c done got run)
@@ -79,14 +84,18 @@ seen_more n disk blocks c count done got run =
     (uses_front l (run.before ++ take count run.rest) (drop count run.rest) (uses_back l run.before (take count run.rest) u)) in
     let like : Like (Uses n c) (performed c.out (take count run.rest) here) (performed c.out (take count run.rest) p.cells) = perform_like (Uses n c) c.out (take count run.rest) here p.cells within run.seen.got run.seen.blocks in
     let e1 : then' n blocks c count done got ≡ later done (performed c.out (take count run.rest) here) = ap (λ ops. later done (performed c.out (take count ops) here)) (rest_is n disk blocks c done got run) in
-    let e2 : performed c.out (run.before ++ take count run.rest) (start disk.blocks) ≡ joined None p (performed c.out (take count run.rest) p.cells) = perform_on c.out run.before (take count run.rest) (start disk.blocks) (sym run.seen.difference) in
-    let both : Like (Uses n c) (later done (performed c.out (take count run.rest) here)) (joined None p (performed c.out (take count run.rest) p.cells)) = record {
-      made = ap (λ m. m + (performed c.out (take count run.rest) here).made) run.seen.made ∙ ap (λ m. p.made + m) like.made;
+    let q : Progress = performed c.out (take count run.rest) p.cells in
+    let e2 : performed c.out (run.before ++ take count run.rest) (start disk.blocks) ≡ joined_where None p q =
+    performed-on c.out run.before (take count run.rest) (start disk.blocks) (sym run.seen.difference) in
+    let now : Progress = performed c.out (take count run.rest) here in
+    let both : Like (Uses n c) (later done now) (joined_where None p q) = record {
+      made = ap (λ m. m + now.made) run.seen.made ∙ ap (λ m. p.made + m) like.made;
       got = like.got;
       difference = like.difference;
       blocks = like.blocks;
     } in
-    subst (λ x. Like (Uses n c) x (performed c.out (run.before ++ take count run.rest) (start disk.blocks))) (sym e1) (subst (λ x. Like (Uses n c) (later done (performed c.out (take count run.rest) here)) x) (sym e2) both)
+    subst (λ x. Like (Uses n c) x (performed c.out (run.before ++ take count run.rest) (start disk.blocks))) (sym e1)
+    (subst (λ x. Like (Uses n c) (later done now) x) (sym e2) both)
 
 -- it goes on
 pub runs_on : (n : ℕ) (disk : Disk) (blocks : List (List ℕ)) (c : Command) (count done : ℕ) (got : List ℕ) → Running n disk blocks c done got →
@@ -105,11 +114,14 @@ at_end : (n : ℕ) (disk : Disk) (blocks : List (List ℕ)) (c : Command) (count
     (then' n blocks c count done got).difference ≡ None → length (plan_in n c) ≤ (then' n blocks c count done got).made → run.before ++ take count run.rest ≡ plan_in n c
 at_end n disk blocks c count done got run e l =
     let s = seen_more n disk blocks c count done got run in
-    let more = perform_done c.out (run.before ++ take count run.rest) (start disk.blocks) (sym s.difference ∙ e) in
+    let none = sym s.difference ∙ e in
+    let all = performed-all c.out (run.before ++ take count run.rest) (start disk.blocks) none in
+    let more = ap (λ (p : Progress). p.made) all in
     let parts = parts_more run.before run.rest (plan_in n c) count run.parts in
     let sizes : length (plan_in n c) ≡ length (run.before ++ take count run.rest) + length (drop count run.rest) = ap length (sym parts) ∙ length-append (run.before ++ take count run.rest) (drop count run.rest) in
-    let none : length (drop count run.rest) ≡ 0 = omega (arith, sizes, more, s.made, l) in
-    sym (append-nil (run.before ++ take count run.rest)) ∙ ap (λ x. (run.before ++ take count run.rest) ++ x) (sym (empty (drop count run.rest) none)) ∙ parts
+    let done_all : length (drop count run.rest) ≡ 0 = omega (arith, sizes, more, s.made, l) in
+    sym (append-nil (run.before ++ take count run.rest))
+    ∙ ap (λ x. (run.before ++ take count run.rest) ++ x) (sym (empty (drop count run.rest) done_all)) ∙ parts
   where
     empty : (ops : List BlockOp) → length ops ≡ 0 → ops ≡ []
     empty [] h = refl
@@ -128,7 +140,9 @@ seen_difference n disk blocks c count done got offset run e =
     let parts = parts_more run.before run.rest (plan_in n c) count run.parts in
     let q = performed c.out (run.before ++ take count run.rest) (start disk.blocks) in
     let whole : performed c.out (plan_in n c) (start disk.blocks) ≡ q =
-    ap (λ ops. performed c.out ops (start disk.blocks)) (sym parts) ∙ perform_stopped c.out (run.before ++ take count run.rest) (drop count run.rest) (start disk.blocks) offset (sym s.difference ∙ e) in
+    ap (λ ops. performed c.out ops (start disk.blocks)) (sym parts)
+    ∙ performed-stopped c.out (run.before ++ take count run.rest) (drop count run.rest) (start disk.blocks) offset
+    (sym s.difference ∙ e) in
     subst (λ x. Like (Uses n c) (then' n blocks c count done got) x) (sym whole) s
 
 -- what more operations leave alone

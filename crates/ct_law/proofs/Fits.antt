@@ -33,7 +33,7 @@ use Rattle.ct_machine.specs.Acts.{Turn, nothing, writes, says, replies, followed
 use Rattle.ct_machine.specs.Runs.{replay, IsRun}
 use Rattle.ct_machine.specs.Laws.{reserved_events}
 use Rattle.ct_law.proofs.Tasks.{Has, has_found, has_without}
-use Rattle.ct_law.proofs.Blocks.{made_within}
+use Rattle.ct_plan.proofs.Performing.{made_within}
 use Rattle.ct_law.proofs.Messages.{is_arrival, is_end}
 use Rattle.ct_law.proofs.Laws.{Laws}
 use Rattle.ct_law.proofs.Cleared.{clears_none}

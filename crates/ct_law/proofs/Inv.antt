@@ -1,5 +1,5 @@
 -- What holds between two events, and what the journal owes at each event.
-use Rattle.std.proofs.Common.{◌≡◌, ℕ, ◌⊎◌, inl, Bool, true, false, List, [], ◌∷◌, ◌++◌, Some, None, length, refl, sym, ap, ◌∙◌, subst, ⊎_elim}
+use Rattle.std.proofs.Common.{◌≡◌, ℕ, Bool, true, false, List, [], ◌∷◌, ◌++◌, Option, Some, None, length, refl, sym, ap, ◌∙◌, subst}
 use Rattle.std.proofs.lemmas.Bool.{both_ways}
 use Rattle.ct_sense.specs.declared.reply.Reply.{Reply}
 use Rattle.ct_book.specs.declared.work.Work.TheVariants as work
@@ -55,22 +55,43 @@ got_at (Here done got) = got
 got_at (There done got) = got
 got_at _ = []
 
--- what a command got from the cells so far, and no difference
-pub record Gained (b : Beside) (data_so_far : List ℕ) : Type 0 where
+-- what a command got from the cells so far, and the difference that it found
+pub record Gained (b : Beside) (found : Option ℕ) (data_so_far : List ℕ) : Type 0 where
   pub got : b.got ≡ data_so_far
-  pub difference : b.difference ≡ None
+  pub difference : b.difference ≡ found
 
--- the blocks are the cells, and what the commands got is what they got from them
+-- the blocks are the cells, and what the commands got is what they got from them; none found a difference
 pub record Cells (o : Opening) (s : State) (journal : List Logged) : Type 0 where
   pub blocks : (n : ℕ) → s.blocks ≡ (beside o n journal).blocks
-  pub gained : (x : Task) → Has s.tasks x → is_over x.stage ≡ false → Gained (beside o x.no journal) (got_at x.stage)
-  pub ungained : (n : ℕ) → has (is_enter n) journal ≡ false → Gained (beside o n journal) []
+  pub gained : (x : Task) → Has s.tasks x → is_over x.stage ≡ false →
+      Gained (beside o x.no journal) None (got_at x.stage)
+  pub ungained : (n : ℕ) → has (is_enter n) journal ≡ false → Gained (beside o n journal) None []
 
 pub record Inv (P : ℕ → ℕ → Type 0) (o : Opening) (s : State) (journal : List Logged) : Type 0 where
   pub frame : Frame P o s journal
   pub rules : Rules o.blocks (serial_disk o journal) s.control s.tasks
   pub cells : Cells o s journal
   pub holds : IsRestricted o journal → Holds o.blocks (serial_disk o journal) s.blocks s.tasks
+
+-- What holds also between the event at which a command, the one with this number, found a difference and its entry: all
+-- but what it got, and what the blocks are beside the serial disk's.
+pub record Others (P : ℕ → ℕ → Type 0) (o : Opening) (s : State) (journal : List Logged) (number : ℕ) : Type 0 where
+  pub frame : Frame P o s journal
+  pub rules : Rules o.blocks (serial_disk o journal) s.control s.tasks
+  pub blocks : (n : ℕ) → s.blocks ≡ (beside o n journal).blocks
+  pub gained : (x : Task) → Has s.tasks x → (x.no ≡ number → ⊥) → is_over x.stage ≡ false →
+      Gained (beside o x.no journal) None (got_at x.stage)
+  pub ungained : (n : ℕ) → has (is_enter n) journal ≡ false → Gained (beside o n journal) None []
+
+pub others_of : (P : ℕ → ℕ → Type 0) (o : Opening) (s : State) (journal : List Logged) (number : ℕ) →
+    Inv P o s journal → Others P o s journal number
+others_of P o s journal number h = record {
+  frame = h.frame;
+  rules = h.rules;
+  blocks = h.cells.blocks;
+  gained = λ x hx other alive. h.cells.gained x hx alive;
+  ungained = h.cells.ungained;
+}
 
 -- an event with no work and no reply
 abbrev pub told : Event → Logged
@@ -151,32 +172,27 @@ still_beside n before (event.Deliver node kind number) b h = refl
 pub beside-same : (o : Opening) (n : ℕ) (journal : List Logged) (e : Logged) → is_move e.event ≡ false → beside o n (journal ++ e ∷ []) ≡ beside o n journal
 beside-same o n journal e h = beside-more o n journal e ∙ still_beside n journal e.event (beside o n journal) h
 
--- the cells after such an event: each command that isn't over was there at a stage with the same data, or hadn't entered
-pub record Stays (o : Opening) (s : State) (journal : List Logged) (y : Task) : Type 0 where
-  pub task : Task
-  pub has : Has s.tasks task
-  pub no : task.no ≡ y.no
-  pub alive : is_over task.stage ≡ false
-  pub got : got_at task.stage ≡ got_at y.stage
-
-pub cells_event : (o : Opening) (s now : State) (journal : List Logged) (e : Logged) → Cells o s journal → is_move e.event ≡ false → now.blocks ≡ s.blocks →
-    ((y : Task) → Has now.tasks y → is_over y.stage ≡ false → Stays o s journal y ⊎ ((has (is_enter y.no) journal ≡ false) × (got_at y.stage ≡ []))) →
-    ((n : ℕ) → has (is_enter n) (journal ++ e ∷ []) ≡ false → has (is_enter n) journal ≡ false) → Cells o now (journal ++ e ∷ [])
-cells_event o s now journal e h still same from old = record {
-  blocks = λ n. same ∙ h.blocks n ∙ ap (λ (b : Beside). b.blocks) (sym (beside-same o n journal e still));
-  gained = λ y hy alive. subst (λ b. Gained b (got_at y.stage)) (sym (beside-same o y.no journal e still)) (⊎_elim
-      (λ (w : Stays o s journal y). subst (λ g. Gained (beside o y.no journal) g) w.got (subst (λ n. Gained (beside o n journal) (got_at w.task.stage)) w.no (h.gained w.task w.has w.alive)))
-      (λ (w : (has (is_enter y.no) journal ≡ false) × (got_at y.stage ≡ [])). subst (λ g. Gained (beside o y.no journal) g) (sym w.1) (h.ungained y.no w.0))
-      (from y hy alive));
-  ungained = λ n k. subst (λ b. Gained b []) (sym (beside-same o n journal e still)) (h.ungained n (old n k));
+-- the cells after such an event: what each command that isn't over got, it got before
+pub cells_event : (o : Opening) (s now : State) (journal : List Logged) (e : Logged) →
+    is_move e.event ≡ false → now.blocks ≡ s.blocks → ((n : ℕ) → s.blocks ≡ (beside o n journal).blocks) →
+    ((y : Task) → Has now.tasks y → is_over y.stage ≡ false → Gained (beside o y.no journal) None (got_at y.stage)) →
+    ((n : ℕ) → has (is_enter n) (journal ++ e ∷ []) ≡ false → Gained (beside o n journal) None []) →
+    Cells o now (journal ++ e ∷ [])
+cells_event o s now journal e still same old gained ungained = record {
+  blocks = λ n. same ∙ old n ∙ ap (λ (b : Beside). b.blocks) (sym (beside-same o n journal e still));
+  gained = λ y hy alive.
+      subst (λ b. Gained b None (got_at y.stage)) (sym (beside-same o y.no journal e still)) (gained y hy alive);
+  ungained = λ n k. subst (λ b. Gained b None []) (sym (beside-same o n journal e still)) (ungained n k);
 }
 
 -- without a change of the task set
-pub cells_quiet : (o : Opening) (s now : State) (journal : List Logged) (e : Logged) → Cells o s journal → is_move e.event ≡ false → now.blocks ≡ s.blocks → now.tasks ≡ s.tasks →
-    ((n : ℕ) → has (is_enter n) (journal ++ e ∷ []) ≡ false → has (is_enter n) journal ≡ false) → Cells o now (journal ++ e ∷ [])
+pub cells_quiet : (o : Opening) (s now : State) (journal : List Logged) (e : Logged) → Cells o s journal →
+    is_move e.event ≡ false → now.blocks ≡ s.blocks → now.tasks ≡ s.tasks →
+    ((n : ℕ) → has (is_enter n) (journal ++ e ∷ []) ≡ false → has (is_enter n) journal ≡ false) →
+    Cells o now (journal ++ e ∷ [])
 cells_quiet o s now journal e h still same tasks old =
-    cells_event o s now journal e h still same
-    (λ y hy alive. inl (record { task = y; has = subst (λ q. Has q y) tasks hy; no = refl; alive = alive; got = refl })) old
+    cells_event o s now journal e still same h.blocks
+    (λ y hy alive. h.gained y (subst (λ q. Has q y) tasks hy) alive) (λ n k. h.ungained n (old n k))
 
 -- a command that is ready begins in order
 pub in_order : (P : ℕ → ℕ → Type 0) (laws : Laws) (o : Opening) (s : State) (journal : List Logged) (x : Task) → Inv P o s journal → Has s.tasks x → x.stage ≡ Waiting → IsReady o.blocks (is_unrestricted s.control) x s.tasks → IsBehindAll o journal x.no

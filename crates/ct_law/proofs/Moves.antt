@@ -1,5 +1,5 @@
 -- A command begins, and moves.
-use Rattle.std.proofs.Common.{◌≡◌, ℕ, ◌⊎◌, inl, inr, Bool, true, false, not, List, [], ◌∷◌, ◌++◌, Some, None, length, refl, sym, ap, ◌∙◌, subst, ⊎_elim, arith, nat_eq, eq-eqb, ne_eqb, cond, slice_set, take, drop}
+use Rattle.std.proofs.Common.{◌≡◌, ℕ, ◌⊎◌, inl, inr, Bool, true, false, not, List, [], ◌∷◌, ◌++◌, Some, None, length, refl, sym, ap, ◌∙◌, subst, ⊎_elim, arith, nat_eq, eq-eqb, ne_eqb, cond, take, drop}
 use Rattle.std.proofs.lemmas.Option.{same_Some}
 use Rattle.std.proofs.lemmas.Bool.{both_ways, or_left, or_right, or_from}
 use Rattle.ct_book.specs.declared.work.Command.{Command}
@@ -9,7 +9,7 @@ use Rattle.ct_book.specs.declared.event.Event.TheVariants as event
 use Rattle.ct_book.specs.declared.event.Logged.{Logged}
 use Rattle.ct_book.specs.Journals.{numbered}
 use Rattle.ct_book.specs.Histories.{cut_at}
-use Rattle.ct_exec.specs.Controls.{is_unrestricted}
+use Rattle.ct_exec.specs.Controls.{Disk, is_unrestricted}
 use Rattle.ct_machine.specs.declared.act.Opening.{Opening}
 use Rattle.ct_machine.specs.States.{Task, Stage, Waiting, Open, Arrival, State, is_waiting, done_at, with_task, at_stage}
 use Rattle.ct_machine.specs.Serial.{serial_disk}
@@ -22,18 +22,16 @@ use Rattle.ct_law.proofs.Messages.{IsStop}
 use Rattle.ct_law.proofs.Books.{is_over, arrival_for, books_turns}
 use Rattle.ct_law.proofs.Orders.{orders_event, orders_turns}
 use Rattle.ct_law.proofs.Opens.{HasOpen, is_remote, opens_event}
-use Rattle.ct_law.proofs.Inv.{LawfulAt, Frame, Gained, Inv, got_at, told, is_move, is_done, known_in, serial-same, cells_event}
-use Rattle.ct_plan.specs.declared.operation.BlockOp.{BlockOp}
-use Rattle.ct_plan.specs.declared.operation.BlockOp.TheVariants.{Get, Put}
-use Rattle.ct_plan.specs.Cells.{Progress, performed, out_block}
+use Rattle.ct_law.proofs.Inv.{LawfulAt, Frame, Gained, Inv, Others, got_at, told, is_move, is_done, known_in, serial-same, cells_event}
+use Rattle.ct_plan.specs.Cells.{Progress, performed}
 use Rattle.ct_exec.specs.Executions.{refusal_of, plan_in}
 use Rattle.ct_machine.specs.Events.{further}
-use Rattle.ct_machine.specs.Laws.{IsBehindAll, work_in, moved_beside, kept_if, progress_made}
+use Rattle.ct_machine.specs.Laws.{IsBehindAll, work_in, moved_beside, kept_if}
 use Rattle.ct_law.proofs.Laws.{Laws, has_operations}
-use Rattle.ct_law.proofs.Commands.{no_difference}
+use Rattle.ct_law.proofs.Blocks.{perform_alike}
 use Rattle.ct_law.proofs.Ready.{IsReady}
-use Rattle.ct_law.proofs.Execs.{then', made_again, then_size}
-use Rattle.ct_law.proofs.Ends.{first_stage, begins_rules, begins_held, IsAt, at_active, at_done, at_further, moved_rules, moved_held}
+use Rattle.ct_law.proofs.Execs.{made_again, then_size}
+use Rattle.ct_law.proofs.Ends.{first_stage, begins_rules, begins_held, IsAt, at_active, at_done, at_further, moved_rules, moved_held, comes_on, comes_to, moved_state}
 use Rattle.ct_law.proofs.Inv.{in_order}
 use Rattle.ct_law.proofs.Steps.{rules_same, holds_same}
 use Rattle.ct_law.proofs.Entries.{Own, opens_turns}
@@ -51,6 +49,12 @@ own_alone P o s journal x e h hx enters only = record {
   mine = λ n i. inl (only n i);
   old = λ n k i. both_ways (has (is_enter n) journal) (h.books.fresh n k).enter (subst (λ m. has (is_enter m) journal ≡ true) (only n i) (h.books.entered x hx));
 }
+
+-- a command that has begun isn't over
+pub begun_at : (stage : Stage) (d : ℕ) (g : List ℕ) → IsAt stage d g →
+    (is_over stage ≡ false) × (is_waiting stage ≡ false) × (got_at stage ≡ g)
+begun_at stage d g (inl k) = (ap is_over k, ap is_waiting k, ap got_at k)
+begun_at stage d g (inr k) = (ap is_over k, ap is_waiting k, ap got_at k)
 
 -- the number of a command is that of no open function
 pub not_open : (P : ℕ → ℕ → Type 0) (o : Opening) (s : State) (journal : List Logged) (x : Task) → Frame P o s journal → Has s.tasks x → (p : Open) → HasOpen s.functions p → x.no ≡ p.no → ⊥
@@ -81,12 +85,16 @@ begun_so P laws o s journal x t idle h hx st ready none allowed moves = record {
   };
   rules = rules_same o journal e s.control (with_task (at_stage (first_stage t) x) s.tasks) (serial-same o journal e (still t))
       (begins_rules o.blocks (serial_disk o journal) s.control s.tasks x t h.rules hx allowed moves);
-  cells = cells_event o s (record s { tasks = with_task (at_stage (first_stage t) x) s.tasks }) journal e h.cells (unmoved t) refl
+  cells = cells_event o s (record s { tasks = with_task (at_stage (first_stage t) x) s.tasks }) journal e
+      (unmoved t) refl h.cells.blocks
       (λ y m k. ⊎_elim
-      (λ (w : at_stage (first_stage t) x ≡ y). inl (record { task = x; has = hx; no = ap (λ (z : Task). z.no) w; alive = ap is_over st; got = ap got_at st ∙ sym (gained t) ∙ ap (λ (z : Task). got_at z.stage) w }))
-      (λ (w : Has s.tasks y × (y.no ≡ x.no → ⊥)). inl (record { task = y; has = w.0; no = refl; alive = k; got = refl }))
+      (λ (w : at_stage (first_stage t) x ≡ y).
+      subst (λ (z : Task). Gained (beside o z.no journal) None (got_at z.stage)) w
+      (subst (λ g. Gained (beside o x.no journal) None g) (ap got_at st ∙ sym (gained t))
+      (h.cells.gained x hx (ap is_over st))))
+      (λ (w : Has s.tasks y × (y.no ≡ x.no → ⊥)). h.cells.gained y w.0 k)
       (has_with (at_stage (first_stage t) x) s.tasks y m))
-      (λ m k. sym (has_same (is_enter m) journal e (enters t m)) ∙ k);
+      (λ m k. h.cells.ungained m (sym (has_same (is_enter m) journal e (enters t m)) ∙ k));
   holds = holds_same o journal e s.blocks (with_task (at_stage (first_stage t) x) s.tasks) (serial-same o journal e (still t))
       (λ r. begins_held laws o.blocks (serial_disk o journal) s.blocks s.tasks x t (h.holds r) h.rules.single hx st (subst (λ b. IsReady o.blocks b x s.tasks) (restricted_now r) ready));
 }
@@ -166,60 +174,91 @@ begun_so P laws o s journal x t idle h hx st ready none allowed moves = record {
 
 -- Moves
 
--- what operations do to the blocks doesn't depend on the data so far
-blocks_alike : (out : List ℕ) (ops : List BlockOp) (blocks : List (List ℕ)) (got got' : List ℕ) → (performed out ops (record { blocks = blocks; got = got })).cells.blocks ≡ (performed out ops (record { blocks = blocks; got = got' })).cells.blocks
-blocks_alike out [] blocks got got' = refl
-blocks_alike out (Get l ∷ ops) blocks got got' = blocks_alike out ops blocks _ _
-blocks_alike out (Put l place ∷ ops) blocks got got' = blocks_alike out ops (slice_set blocks l (out_block out place)) got got'
+-- what holds behind operations that a command made: what holds of all but it, and what it got and found
+pub record Moved (P : ℕ → ℕ → Type 0) (o : Opening) (s : State) (journal : List Logged) (x : Task)
+    (p : Progress) : Type 0 where
+  pub others : Others P o s journal x.no
+  pub gained : Gained (beside o x.no journal) p.difference p.cells.got
 
-pub moved_so : (P : ℕ → ℕ → Type 0) (laws : Laws) (o : Opening) (s : State) (journal : List Logged) (x : Task) (count done : ℕ) (got : List ℕ) → Inv P o s journal → Has s.tasks x → IsAt x.stage done got →
-    Inv P o (record s {
-      tasks = with_task (at_stage (further x.stage (then' (length s.blocks) s.blocks x.command count done got).made (then' (length s.blocks) s.blocks x.command count done got).cells.got) x) s.tasks;
-      blocks = (then' (length s.blocks) s.blocks x.command count done got).cells.blocks;
-    }) (journal ++ told (event.Moved x.no (performed x.command.out (take count (drop done (plan_in (length s.blocks) x.command))) (record { blocks = s.blocks; got = got })).made) ∷ [])
-moved_so P laws o s journal x count done got h hx at = record {
-  frame = record {
-    each = each_more (LawfulAt o) [] journal e h.frame.each (record { once = λ m k. absurd (cc); orderly = tt; prefix = unended; cells = tt; sound = tt; legal = λ r. tt; by = tt });
-    works = h.frame.works ∙ sym (works_in-none journal e refl);
-    size = then_size n s.blocks x.command count done got ∙ h.frame.size;
-    books = books_turns journal s.arrivals s.tasks s.to_a x stage e h.frame.books hx (record {
-      entry = or_from _ _ unended refl ∙ sym alive';
-      begin = λ k. or_left _ _ (h.frame.books.begin x hx alive ∙ ap not waits) ∙ sym (ap not waits');
-      made = λ k. let a = h.frame.books.made x hx alive in let b = ap (λ t. cond t made 0) (eq-eqb x.no x.no refl) in let c = at_done x.stage done got at in let d = at_done stage p.made p.cells.got at' in omega (arith, a, b, c, d);
-      enters = λ m. refl;
-    }) own.mine own.old;
-    orders = orders_turns (journal ++ e ∷ []) s.tasks x stage hx waits' (orders_event journal s.tasks e (λ m. refl) h.frame.orders);
-    opens = opens_turns P (journal ++ e ∷ []) s.arrivals s.tasks s.functions s.to_a s.to_b x stage hx
-        (λ a. inl (record { task = x; has = hx; no = refl; command = refl; active = active; remote = remote x.stage at }))
-        (opens_event P journal s.arrivals s.tasks s.functions s.to_a s.to_b e (λ q hq. (refl, refl)) h.frame.opens);
-  };
-  rules = rules_same o journal e s.control (with_task (at_stage stage x) s.tasks) (serial-same o journal e refl) (moved_rules o.blocks (serial_disk o journal) s.control s.tasks x stage h.rules hx active);
-  cells = record {
-    blocks = λ m. sym (ap (λ (b : Beside). b.blocks) (now m) ∙ kept_blocks (nat_eq x.no m) (moves_beside m) (beside o m journal) ∙ same_blocks m);
-    gained = λ y hy k. ⊎_elim
-        (λ (w : at_stage stage x ≡ y). subst (λ (z : Task). Gained (beside o z.no (journal ++ e ∷ [])) (got_at z.stage)) w mine)
-        (λ (w : Has s.tasks y × (y.no ≡ x.no → ⊥)). others y.no (got_at y.stage) (λ i. w.1 (sym i)) (h.cells.gained y w.0 k))
+abbrev pub moved_event : State → Task → ℕ → ℕ → List ℕ → Logged
+moved_event s x count done got = told (event.Moved x.no (comes_on s x count done got).made)
+
+pub moves_so : (P : ℕ → ℕ → Type 0) (o : Opening) (s : State) (journal : List Logged) (x : Task) (count done : ℕ)
+    (got : List ℕ) → Inv P o s journal → Has s.tasks x → IsAt x.stage done got →
+    Moved P o (moved_state s x (comes_to s x count done got)) (journal ++ moved_event s x count done got ∷ []) x
+    (comes_to s x count done got)
+moves_so P o s journal x count done got h hx at = record {
+  others = record {
+    frame = record {
+      each = each_more (LawfulAt o) [] journal e h.frame.each (record {
+        once = λ m k. absurd (cc);
+        orderly = tt;
+        prefix = unended;
+        cells = tt;
+        sound = tt;
+        legal = λ r. tt;
+        by = tt;
+      });
+      works = h.frame.works ∙ sym (works_in-none journal e refl);
+      size = then_size n s.blocks c count done got ∙ h.frame.size;
+      books = books_turns journal s.arrivals s.tasks s.to_a x stage e h.frame.books hx (record {
+        entry = or_from _ _ unended refl ∙ sym alive';
+        begin = λ k. or_left _ _ (h.frame.books.begin x hx alive ∙ ap not waits) ∙ sym (ap not waits');
+        made = λ k.
+            let a = h.frame.books.made x hx alive in
+            let b = ap (λ t. cond t made 0) (eq-eqb x.no x.no refl) in
+            let was = at_done x.stage done got at in
+            let is = at_done stage p.made p.cells.got at' in
+            omega (arith, a, b, was, is);
+        enters = λ m. refl;
+      }) own.mine own.old;
+      orders = orders_turns (journal ++ e ∷ []) s.tasks x stage hx waits'
+          (orders_event journal s.tasks e (λ m. refl) h.frame.orders);
+      opens = opens_turns P (journal ++ e ∷ []) s.arrivals s.tasks s.functions s.to_a s.to_b x stage hx
+          (λ a. inl (record {
+            task = x;
+            has = hx;
+            no = refl;
+            command = refl;
+            active = active;
+            remote = remote x.stage at;
+          }))
+          (opens_event P journal s.arrivals s.tasks s.functions s.to_a s.to_b e (λ q hq. (refl, refl)) h.frame.opens);
+    };
+    rules = rules_same o journal e s.control (with_task (at_stage stage x) s.tasks) (serial-same o journal e refl)
+        (moved_rules o.blocks (serial_disk o journal) s.control s.tasks x stage h.rules hx active);
+    blocks = λ m. sym (
+        ap (λ (b : Beside). b.blocks) (now m)
+        ∙ kept_blocks (nat_eq x.no m) (moves_beside m) (beside o m journal)
+        ∙ same_blocks m);
+    gained = λ y hy other k. ⊎_elim
+        (λ (w : at_stage stage x ≡ y). absurd (other (ap (λ (z : Task). z.no) (sym w))))
+        (λ (w : Has s.tasks y × (y.no ≡ x.no → ⊥)).
+        stays y.no (got_at y.stage) (λ i. w.1 (sym i)) (h.cells.gained y w.0 k))
         (has_with (at_stage stage x) s.tasks y hy);
     ungained = λ m k.
         let old : has (is_enter m) journal ≡ false = sym (has_same (is_enter m) journal e refl) ∙ k in
-        others m [] (λ i. both_ways (has (is_enter m) journal) old (subst (λ j. has (is_enter j) journal ≡ true) i (h.frame.books.entered x hx))) (h.cells.ungained m old);
+        let other : x.no ≡ m → ⊥ = λ i. both_ways (has (is_enter m) journal) old
+        (subst (λ j. has (is_enter j) journal ≡ true) i (h.frame.books.entered x hx)) in
+        stays m [] other (h.cells.ungained m old);
   };
-  holds = holds_same o journal e p.cells.blocks (with_task (at_stage stage x) s.tasks) (serial-same o journal e refl)
-      (λ r. subst (λ k. Holds k (serial_disk o journal) p.cells.blocks (with_task (at_stage stage x) s.tasks)) h.frame.size
-      (moved_held n (serial_disk o journal) s.blocks s.tasks x count done got (subst (λ k. Holds k (serial_disk o journal) s.blocks s.tasks) (sym h.frame.size) (h.holds r)) h.rules.single hx at (no_difference x.command.out (take count (drop done (plan_in n x.command))) (record { blocks = s.blocks; got = got }))));
+  gained = mine;
 }
   where
     n : ℕ
     n = length s.blocks
 
+    c : Command
+    c = x.command
+
     p : Progress
-    p = then' n s.blocks x.command count done got
+    p = comes_to s x count done got
 
     made : ℕ
-    made = (performed x.command.out (take count (drop done (plan_in n x.command))) (record { blocks = s.blocks; got = got })).made
+    made = (comes_on s x count done got).made
 
     e : Logged
-    e = told (event.Moved x.no made)
+    e = moved_event s x count done got
 
     stage : Stage
     stage = further x.stage p.made p.cells.got
@@ -230,21 +269,23 @@ moved_so P laws o s journal x count done got h hx at = record {
     active : is_active x.stage ≡ true
     active = at_active x.stage done got at
 
-    begun : (st : Stage) (d : ℕ) (g : List ℕ) → IsAt st d g → (is_over st ≡ false) × (is_waiting st ≡ false)
-    begun st d g (inl k) = (ap is_over k, ap is_waiting k)
-    begun st d g (inr k) = (ap is_over k, ap is_waiting k)
+    begun : (is_over x.stage ≡ false) × (is_waiting x.stage ≡ false) × (got_at x.stage ≡ got)
+    begun = begun_at x.stage done got at
+
+    begun' : (is_over stage ≡ false) × (is_waiting stage ≡ false) × (got_at stage ≡ p.cells.got)
+    begun' = begun_at stage p.made p.cells.got at'
 
     alive : is_over x.stage ≡ false
-    alive = (begun x.stage done got at).0
+    alive = begun.0
 
     waits : is_waiting x.stage ≡ false
-    waits = (begun x.stage done got at).1
+    waits = begun.1
 
     alive' : is_over stage ≡ false
-    alive' = (begun stage p.made p.cells.got at').0
+    alive' = begun'.0
 
     waits' : is_waiting stage ≡ false
-    waits' = (begun stage p.made p.cells.got at').1
+    waits' = begun'.1
 
     remote : (st : Stage) → IsAt st done got → is_remote (further st p.made p.cells.got) ≡ true → is_remote st ≡ true
     remote st (inl k) r = absurd (both_ways _ (ap (λ z. is_remote (further z p.made p.cells.got)) k) r)
@@ -256,58 +297,104 @@ moved_so P laws o s journal x count done got h hx at = record {
     own : Own s x e.event
     own = own_alone P o s journal x e.event h.frame hx (λ m. refl) (λ m i. i)
 
-    c : Command
-    c = x.command
+    -- the operations on other blocks, and on the cells
+    at_blocks : (blocks : List (List ℕ)) (g : List ℕ) → Progress
+    at_blocks blocks g =
+        performed c.out (take made (drop done (plan_in (length blocks) c))) (record { blocks = blocks; got = g })
 
-    out : List ℕ
-    out = c.out
-
-    -- the operations on the cells
     moves_beside : ℕ → Progress
-    moves_beside m = progress_made c done made (record { blocks = (beside o m journal).blocks; got = (beside o m journal).got }) (length (beside o m journal).blocks)
+    moves_beside m = at_blocks (beside o m journal).blocks (beside o m journal).got
 
     now : (m : ℕ) → beside o m (journal ++ e ∷ []) ≡ kept_if (nat_eq x.no m) (moves_beside m) (beside o m journal)
     now m =
         beside-more o m journal e
-        ∙ ap (λ d. moved_beside m x.no d made (work_in x.no journal) (beside o m journal)) (h.frame.books.made x hx alive ∙ at_done x.stage done got at)
+        ∙ ap (λ d. moved_beside m x.no d made (work_in x.no journal) (beside o m journal))
+        (h.frame.books.made x hx alive ∙ at_done x.stage done got at)
         ∙ ap (λ w. moved_beside m x.no done made w (beside o m journal)) (known_in P o s journal x h.frame hx)
 
     kept_blocks : (t : Bool) (q : Progress) (b : Beside) → (kept_if t q b).blocks ≡ q.cells.blocks
     kept_blocks true q b = refl
     kept_blocks false q b = refl
 
-    at_blocks : (bs : List (List ℕ)) (g : List ℕ) → Progress
-    at_blocks bs g = performed out (take made (drop done (plan_in (length bs) c))) (record { blocks = bs; got = g })
+    again : at_blocks s.blocks got ≡ comes_on s x count done got
+    again = made_again c.out count (drop done (plan_in n c)) (record { blocks = s.blocks; got = got })
 
     same_blocks : (m : ℕ) → (moves_beside m).cells.blocks ≡ p.cells.blocks
     same_blocks m =
-        ap (λ bs. (at_blocks bs (beside o m journal).got).cells.blocks) (sym (h.cells.blocks m))
-        ∙ blocks_alike out (take made (drop done (plan_in n c))) s.blocks (beside o m journal).got got
-        ∙ ap (λ (q : Progress). q.cells.blocks) (made_again out count (drop done (plan_in n c)) (record { blocks = s.blocks; got = got }))
+        let theirs : List ℕ = (beside o m journal).got in
+        ap (λ blocks. (at_blocks blocks theirs).cells.blocks) (sym (h.cells.blocks m))
+        ∙ perform_alike c.out (take made (drop done (plan_in n c)))
+        (record { blocks = s.blocks; got = theirs }) (record { blocks = s.blocks; got = got }) refl
+        ∙ ap (λ (q : Progress). q.cells.blocks) again
 
-    further_got : (st : Stage) → IsAt st p.made p.cells.got → got_at st ≡ p.cells.got
-    further_got st (inl k) = ap got_at k
-    further_got st (inr k) = ap got_at k
-
-    stage_got : (st : Stage) → IsAt st done got → got_at st ≡ got
-    stage_got st (inl k) = ap got_at k
-    stage_got st (inr k) = ap got_at k
-
-    mine : Gained (beside o x.no (journal ++ e ∷ [])) (got_at stage)
+    mine : Gained (beside o x.no (journal ++ e ∷ [])) p.difference p.cells.got
     mine =
         let b : Beside = beside o x.no journal in
-        let g : Gained b (got_at x.stage) = h.cells.gained x hx alive in
-        let is : beside o x.no (journal ++ e ∷ []) ≡ record { blocks = (moves_beside x.no).cells.blocks; got = (moves_beside x.no).cells.got; difference = (moves_beside x.no).difference } =
-        now x.no ∙ ap (λ t. kept_if t (moves_beside x.no) b) (eq-eqb x.no x.no refl) in
-        let same : moves_beside x.no ≡ performed out (take count (drop done (plan_in n c))) (record { blocks = s.blocks; got = got }) =
-        ap (λ bs. at_blocks bs b.got) (sym (h.cells.blocks x.no)) ∙ ap (at_blocks s.blocks) (g.got ∙ stage_got x.stage at)
-        ∙ made_again out count (drop done (plan_in n c)) (record { blocks = s.blocks; got = got }) in
+        let g : Gained b None (got_at x.stage) = h.cells.gained x hx alive in
+        let q : Progress = moves_beside x.no in
+        let is : beside o x.no (journal ++ e ∷ []) ≡ kept_if true q b =
+        now x.no ∙ ap (λ t. kept_if t q b) (eq-eqb x.no x.no refl) in
+        let same : q ≡ comes_on s x count done got =
+        ap (λ blocks. at_blocks blocks b.got) (sym (h.cells.blocks x.no))
+        ∙ ap (at_blocks s.blocks) (g.got ∙ begun.2) ∙ again in
         record {
-          got = ap (λ (k : Beside). k.got) is ∙ ap (λ (q : Progress). q.cells.got) same ∙ sym (further_got stage at');
-          difference = ap (λ (k : Beside). k.difference) is ∙ ap (λ (q : Progress). q.difference) same ∙ no_difference out (take count (drop done (plan_in n c))) (record { blocks = s.blocks; got = got });
+          got = ap (λ (k : Beside). k.got) is ∙ ap (λ (r : Progress). r.cells.got) same;
+          difference = ap (λ (k : Beside). k.difference) is ∙ ap (λ (r : Progress). r.difference) same;
         }
 
-    others : (m : ℕ) (g : List ℕ) → (x.no ≡ m → ⊥) → Gained (beside o m journal) g → Gained (beside o m (journal ++ e ∷ [])) g
-    others m g ne k =
-        let is : beside o m (journal ++ e ∷ []) ≡ record (beside o m journal) { blocks = (moves_beside m).cells.blocks } = now m ∙ ap (λ t. kept_if t (moves_beside m) (beside o m journal)) (ne_eqb x.no m ne) in
-        record { got = ap (λ (z : Beside). z.got) is ∙ k.got; difference = ap (λ (z : Beside). z.difference) is ∙ k.difference }
+    stays : (m : ℕ) (g : List ℕ) → (x.no ≡ m → ⊥) →
+        Gained (beside o m journal) None g → Gained (beside o m (journal ++ e ∷ [])) None g
+    stays m g ne k =
+        let is : beside o m (journal ++ e ∷ []) ≡ kept_if false (moves_beside m) (beside o m journal) =
+        now m ∙ ap (λ t. kept_if t (moves_beside m) (beside o m journal)) (ne_eqb x.no m ne) in
+        record {
+          got = ap (λ (z : Beside). z.got) is ∙ k.got;
+          difference = ap (λ (z : Beside). z.difference) is ∙ k.difference;
+        }
+
+-- where it found no difference it goes on
+pub moved_so : (P : ℕ → ℕ → Type 0) (o : Opening) (s : State) (journal : List Logged) (x : Task) (count done : ℕ)
+    (got : List ℕ) → Inv P o s journal → Has s.tasks x → IsAt x.stage done got →
+    (comes_to s x count done got).difference ≡ None →
+    Inv P o (moved_state s x (comes_to s x count done got)) (journal ++ moved_event s x count done got ∷ [])
+moved_so P o s journal x count done got h hx at none = record {
+  frame = moved.others.frame;
+  rules = moved.others.rules;
+  cells = record {
+    blocks = moved.others.blocks;
+    gained = λ y hy k. ⊎_elim
+        (λ (w : at_stage stage x ≡ y).
+        subst (λ (z : Task). Gained (beside o z.no (journal ++ e ∷ [])) None (got_at z.stage)) w mine)
+        (λ (w : Has s.tasks y × (y.no ≡ x.no → ⊥)). moved.others.gained y hy w.1 k)
+        (has_with (at_stage stage x) s.tasks y hy);
+    ungained = moved.others.ungained;
+  };
+  holds = holds_same o journal e p.cells.blocks (with_task (at_stage stage x) s.tasks) (serial-same o journal e refl)
+      (λ r. subst (λ k. Holds k d p.cells.blocks (with_task (at_stage stage x) s.tasks)) h.frame.size
+      (moved_held n d s.blocks s.tasks x count done got
+      (subst (λ k. Holds k d s.blocks s.tasks) (sym h.frame.size) (h.holds r)) h.rules.single hx at none));
+}
+  where
+    n : ℕ
+    n = length s.blocks
+
+    d : Disk
+    d = serial_disk o journal
+
+    p : Progress
+    p = comes_to s x count done got
+
+    e : Logged
+    e = moved_event s x count done got
+
+    stage : Stage
+    stage = further x.stage p.made p.cells.got
+
+    moved : Moved P o (moved_state s x p) (journal ++ e ∷ []) x p
+    moved = moves_so P o s journal x count done got h hx at
+
+    got_now : got_at stage ≡ p.cells.got
+    got_now = (begun_at stage p.made p.cells.got (at_further x.stage done got p.made p.cells.got at)).2
+
+    mine : Gained (beside o x.no (journal ++ e ∷ [])) None (got_at stage)
+    mine = record { got = moved.gained.got ∙ sym got_now; difference = moved.gained.difference ∙ none }

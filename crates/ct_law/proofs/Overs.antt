@@ -1,5 +1,5 @@
 -- Ends and cuts of commands.
-use Rattle.std.proofs.Common.{◌≡◌, ℕ, ◌≤◌, inl, inr, Bool, true, false, not, List, [], ◌∷◌, ◌++◌, Some, None, length, refl, sym, ap, ◌∙◌, subst, ⊎_elim, arith, nat_eq, eqb-true, eq-eqb, ne_eqb, take, slice_get}
+use Rattle.std.proofs.Common.{◌≡◌, ℕ, ◌≤◌, inl, inr, Bool, true, false, not, List, [], ◌∷◌, ◌++◌, Option, Some, None, length, refl, sym, ap, ◌∙◌, subst, ⊎_elim, arith, nat_eq, eqb-true, eq-eqb, ne_eqb, take, slice_get}
 use Rattle.std.proofs.lemmas.Option.{same_Some}
 use Rattle.std.proofs.lemmas.Bool.{both_ways}
 use Rattle.ct_word.specs.declared.names.Node.{Node}
@@ -14,29 +14,31 @@ use Rattle.ct_book.specs.Journals.{numbered, works_in}
 use Rattle.ct_book.specs.Histories.{cut_at}
 use Rattle.ct_exec.specs.Controls.{Disk, is_unrestricted}
 use Rattle.ct_machine.specs.declared.act.Opening.{Opening}
-use Rattle.ct_machine.specs.States.{Task, Stage, Waiting, Over, Open, Arrival, State, is_waiting, done_at, with_task, at_stage}
+use Rattle.ct_machine.specs.States.{Task, Waiting, Over, Open, Arrival, State, is_waiting, done_at, with_task, at_stage}
 use Rattle.ct_machine.specs.Serial.{disk_after, serial_disk}
 use Rattle.ct_machine.specs.Laws.{has, is_entry, is_begin, is_enter, is_asked, IsCommandOf, IsRestricted, beside}
-use Rattle.ct_law.proofs.Tasks.{Has}
+use Rattle.ct_law.proofs.Tasks.{Has, with_itself}
+use Rattle.ct_law.proofs.Changed.{with_with}
 use Rattle.ct_law.proofs.Held.{Rules, Holds, is_active}
 use Rattle.ct_law.proofs.Growing.{numbered-map}
 use Rattle.ct_law.proofs.Books.{is_over, arrival_for}
 use Rattle.ct_law.proofs.Opens.{Opens, HasOpen, opens_event, opens_cut}
-use Rattle.ct_law.proofs.Inv.{LawfulAt, Frame, Gained, Inv, got_at, told, replied, is_move, known_in}
+use Rattle.ct_law.proofs.Inv.{LawfulAt, Frame, Gained, Inv, Others, others_of, got_at, told, replied, is_move, known_in, restricted_before, serial-same}
 use Rattle.ct_tmf.specs.Reaches.{hits}
 use Rattle.ct_plan.specs.declared.operation.BlockOp.{BlockOp}
 use Rattle.ct_plan.specs.Plans.{puts_among}
+use Rattle.ct_plan.specs.Cells.{Progress}
 use Rattle.ct_exec.specs.Executions.{Execution, execute, refusal_of, plan_in, reply_moved, reply_failed}
 use Rattle.ct_machine.specs.States.{disk_of}
-use Rattle.ct_machine.specs.Events.{noted, is_hit}
+use Rattle.ct_machine.specs.Events.{noted, is_hit, further}
 use Rattle.ct_machine.specs.Serial.{command_ran, command_cut, cut_disk}
 use Rattle.ct_machine.specs.Laws.{made_by, RepliesAsExecuted, IsCutFor}
 use Rattle.ct_law.proofs.Laws.{Laws, IsOnce, Same}
 use Rattle.ct_law.proofs.Ready.{IsReady}
-use Rattle.ct_law.proofs.Ends.{IsAt, at_active, at_done, running_in, cut_held, cut_rules, ran_held, ran_rules, once_same, once_rules, once_held, puts_at, disk_cut}
+use Rattle.ct_law.proofs.Ends.{IsAt, at_active, at_done, at_further, running_in, cut_held, cut_rules, ran_held, ran_rules, once_same, once_rules, once_held, puts_at, disk_cut, comes_to, moved_state}
 use Rattle.ct_law.proofs.Inv.{in_order}
-use Rattle.ct_law.proofs.Entries.{Own, over_state, entry_so}
-use Rattle.ct_law.proofs.Moves.{own_alone, not_open}
+use Rattle.ct_law.proofs.Entries.{Own, over_state, over_alone, entry_so}
+use Rattle.ct_law.proofs.Moves.{own_alone, begun_at, not_open, Moved, moved_event, moves_so}
 
 -- facts about a command of the task set that isn't over
 unended : (P : ℕ → ℕ → Type 0) (o : Opening) (s : State) (journal : List Logged) (x : Task) → Frame P o s journal → Has s.tasks x → is_over x.stage ≡ false → has (is_entry x.no) journal ≡ false
@@ -45,10 +47,6 @@ unended P o s journal x h hx alive = h.books.entry x hx ∙ alive
 once_entry : (n : ℕ) (journal : List Logged) → has (is_entry n) journal ≡ false → (m : ℕ) → nat_eq n m ≡ true → has (is_entry m) journal ≡ false
 once_entry n journal h m k = subst (λ i. has (is_entry i) journal ≡ false) (eqb-true n m k) h
 
-begun_at : (stage : Stage) (d : ℕ) (g : List ℕ) → IsAt stage d g → (is_over stage ≡ false) × (is_waiting stage ≡ false) × (got_at stage ≡ g)
-begun_at stage d g (inl k) = (ap is_over k, ap is_waiting k, ap got_at k)
-begun_at stage d g (inr k) = (ap is_over k, ap is_waiting k, ap got_at k)
-
 -- the task set and what holds of it, on as many blocks as the state has
 rules_n : (P : ℕ → ℕ → Type 0) (o : Opening) (s : State) (journal : List Logged) → Inv P o s journal → Rules (length s.blocks) (serial_disk o journal) s.control s.tasks
 rules_n P o s journal h = subst (λ k. Rules k (serial_disk o journal) s.control s.tasks) (sym h.frame.size) h.rules
@@ -56,31 +54,49 @@ rules_n P o s journal h = subst (λ k. Rules k (serial_disk o journal) s.control
 opens_alone : (P : ℕ → ℕ → Type 0) (o : Opening) (s : State) (journal : List Logged) (x : Task) (e : Logged) → Frame P o s journal → Has s.tasks x → ((p : Open) → HasOpen s.functions p → (x.no ≡ p.no → ⊥) → (is_entry p.no e.event ≡ false) × (cut_at p.no e.event ≡ [])) → Opens P (journal ++ e ∷ []) s.arrivals s.tasks s.functions s.to_a s.to_b
 opens_alone P o s journal x e h hx f = opens_event P journal s.arrivals s.tasks s.functions s.to_a s.to_b e (λ p hp. f p hp (not_open P o s journal x h hx p hp)) h.opens
 
--- a command that has made all its operations ends
-pub ended_so : (P : ℕ → ℕ → Type 0) (laws : Laws) (o : Opening) (s : State) (journal : List Logged) (x : Task) (done : ℕ) (got : List ℕ) → Inv P o s journal → Has s.tasks x → IsAt x.stage done got → length (plan_in o.blocks x.command) ≤ done →
-    Inv P o (over_state s x s.functions s.control s.blocks) (journal ++ replied (event.Ended x.no) (reply_moved s.control None got) ∷ [])
-ended_so P laws o s journal x done got h hx at whole = entry_so P o s journal x e s.functions s.control s.blocks h hx b.0 (record {
-  lawful = record {
-    once = once_entry x.no journal (unended P o s journal x h.frame hx b.0);
-    orderly = λ k. absurd (both_ways _ k begun);
-    prefix = tt;
-    cells = λ k. ap Some (ap (λ c. reply_moved c None got) h.rules.control ∙ ap (λ g. reply_moved d.control None g) (sym b.2 ∙ sym gained.got) ∙ ap (λ f. reply_moved d.control f (beside o x.no journal).got) (sym gained.difference));
-    sound = (λ k. absurd (both_ways _ k begun), λ c w k. subst (λ z. refusal_of d.control o.blocks z ≡ None) (same_command c w) (h.rules.allowed x hx active).0);
-    legal = λ r. (x.command, known, ap Some (held r).1);
-    by = tt;
-  };
-  entry = eq-eqb x.no x.no refl;
-  no_work = refl;
-  no_move = refl;
-  own = own_alone P o s journal x e.event h.frame hx (λ m. refl) (λ m i. i);
-  opens = opens_alone P o s journal x e h.frame hx (λ p hp ne. (ne_eqb x.no p.no ne, refl));
-  blocks_same = refl;
-  rules = subst (λ w. Rules o.blocks (command_ran w d) s.control (with_task (at_stage Over x) s.tasks)) (sym known) (ran_rules laws o.blocks d s.control s.tasks x h.rules hx active);
-  holds = λ r. subst (λ w. Holds o.blocks (command_ran w d) s.blocks (with_task (at_stage Over x) s.tasks)) (sym known) (held r).0;
-})
+-- what a command leaves that ends with these data and this difference, if any, where it is executed whole
+abbrev pub IsWhole : ℕ → Disk → State → Task → Option ℕ → List ℕ → Type 0
+IsWhole n d s x found got =
+    Holds n (execute d x.command).disk s.blocks (with_task (at_stage Over x) s.tasks)
+    × (reply_moved s.control found got ≡ (execute d x.command).reply)
+
+-- a command ends
+pub ends_so : (P : ℕ → ℕ → Type 0) (laws : Laws) (o : Opening) (s : State) (journal : List Logged) (x : Task)
+    (done : ℕ) (got : List ℕ) (found : Option ℕ) → Others P o s journal x.no → Has s.tasks x → IsAt x.stage done got →
+    Gained (beside o x.no journal) found got →
+    (IsRestricted o journal → IsWhole o.blocks (serial_disk o journal) s x found got) →
+    Inv P o (over_alone s x) (journal ++ replied (event.Ended x.no) (reply_moved s.control found got) ∷ [])
+ends_so P laws o s journal x done got found h hx at gained held =
+    entry_so P o s journal x e s.functions s.control s.blocks h hx b.0 (record {
+      lawful = record {
+        once = once_entry x.no journal (unended P o s journal x h.frame hx b.0);
+        orderly = λ k. absurd (both_ways _ k begun);
+        prefix = tt;
+        cells = λ k. ap Some (ap (λ c. reply_moved c found got) h.rules.control
+            ∙ ap (λ g. reply_moved d.control found g) (sym gained.got)
+            ∙ ap (λ f. reply_moved d.control f (beside o x.no journal).got) (sym gained.difference));
+        sound = (
+          λ k. absurd (both_ways _ k begun),
+          λ c w k.
+              subst (λ z. refusal_of d.control o.blocks z ≡ None) (same_command c w) (h.rules.allowed x hx active).0,
+        );
+        legal = λ r. (x.command, known, ap Some (held r).1);
+        by = tt;
+      };
+      entry = eq-eqb x.no x.no refl;
+      no_work = refl;
+      no_move = refl;
+      own = own_alone P o s journal x e.event h.frame hx (λ m. refl) (λ m i. i);
+      opens = opens_alone P o s journal x e h.frame hx (λ p hp ne. (ne_eqb x.no p.no ne, refl));
+      blocks_same = refl;
+      rules = subst (λ w. Rules o.blocks (command_ran w d) s.control (with_task (at_stage Over x) s.tasks)) (sym known)
+          (ran_rules laws o.blocks d s.control s.tasks x h.rules hx active);
+      holds = λ r. subst (λ w. Holds o.blocks (command_ran w d) s.blocks (with_task (at_stage Over x) s.tasks))
+          (sym known) (held r).0;
+    })
   where
     e : Logged
-    e = replied (event.Ended x.no) (reply_moved s.control None got)
+    e = replied (event.Ended x.no) (reply_moved s.control found got)
 
     d : Disk
     d = serial_disk o journal
@@ -94,42 +110,123 @@ ended_so P laws o s journal x done got h hx at whole = entry_so P o s journal x 
     begun : has (is_begin x.no) journal ≡ true
     begun = h.frame.books.begin x hx b.0 ∙ ap not b.1
 
-    gained : Gained (beside o x.no journal) (got_at x.stage)
-    gained = h.cells.gained x hx b.0
-
     known : IsCommandOf journal x.no x.command
     known = known_in P o s journal x h.frame hx
 
     same_command : (c : Command) → IsCommandOf journal x.no c → x.command ≡ c
     same_command c w = let k : Some (work.Cmd x.command) ≡ Some (work.Cmd c) = sym known ∙ w in cc
 
-    held : IsRestricted o journal → Holds o.blocks (execute d x.command).disk s.blocks (with_task (at_stage Over x) s.tasks) × (reply_moved s.control None got ≡ (execute d x.command).reply)
-    held r = ran_held laws o.blocks d s.control s.blocks s.tasks x 0 done got h.rules (h.holds r) hx active (running_in o.blocks d s.blocks x.command x.stage done got at ((h.holds r).running x hx)) (inr (refl, omega (arith, whole)))
+-- one that has made all its operations
+pub ended_so : (P : ℕ → ℕ → Type 0) (laws : Laws) (o : Opening) (s : State) (journal : List Logged) (x : Task)
+    (done : ℕ) (got : List ℕ) → Inv P o s journal → Has s.tasks x → IsAt x.stage done got →
+    length (plan_in o.blocks x.command) ≤ done →
+    Inv P o (over_alone s x) (journal ++ replied (event.Ended x.no) (reply_moved s.control None got) ∷ [])
+ended_so P laws o s journal x done got h hx at whole =
+    ends_so P laws o s journal x done got None (others_of P o s journal x.no h) hx at
+    (record { got = gained.got ∙ b.2; difference = gained.difference }) held
+  where
+    d : Disk
+    d = serial_disk o journal
+
+    b : (is_over x.stage ≡ false) × (is_waiting x.stage ≡ false) × (got_at x.stage ≡ got)
+    b = begun_at x.stage done got at
+
+    gained : Gained (beside o x.no journal) None (got_at x.stage)
+    gained = h.cells.gained x hx b.0
+
+    held : IsRestricted o journal → IsWhole o.blocks d s x None got
+    held r = ran_held laws o.blocks d s.control s.blocks s.tasks x 0 done got h.rules (h.holds r) hx
+        (at_active x.stage done got at)
+        (running_in o.blocks d s.blocks x.command x.stage done got at ((h.holds r).running x hx))
+        (inr (refl, omega (arith, whole)))
+
+-- one that found a difference, right behind the operations at which it found it
+pub differed_so : (P : ℕ → ℕ → Type 0) (laws : Laws) (o : Opening) (s : State) (journal : List Logged) (x : Task)
+    (count done : ℕ) (got : List ℕ) (offset : ℕ) → Inv P o s journal → Has s.tasks x → IsAt x.stage done got →
+    (comes_to s x count done got).difference ≡ Some offset →
+    let p = comes_to s x count done got in
+    Inv P o (over_alone (moved_state s x p) (at_stage (further x.stage p.made p.cells.got) x))
+    ((journal ++ moved_event s x count done got ∷ [])
+    ++ replied (event.Ended x.no) (reply_moved s.control (Some offset) []) ∷ [])
+differed_so P laws o s journal x count done got offset h hx at differs =
+    ends_so P laws o now (journal ++ e ∷ []) w p.made p.cells.got (Some offset) moved.others
+    (with_itself w s.tasks x hx refl) (at_further x.stage done got p.made p.cells.got at)
+    (record { got = moved.gained.got; difference = moved.gained.difference ∙ differs }) held
+  where
+    n : ℕ
+    n = length s.blocks
+
+    d : Disk
+    d = serial_disk o journal
+
+    p : Progress
+    p = comes_to s x count done got
+
+    now : State
+    now = moved_state s x p
+
+    e : Logged
+    e = moved_event s x count done got
+
+    w : Task
+    w = at_stage (further x.stage p.made p.cells.got) x
+
+    moved : Moved P o now (journal ++ e ∷ []) x p
+    moved = moves_so P o s journal x count done got h hx at
+
+    -- the same, said of the task set before the operations
+    before : State
+    before = record now { tasks = s.tasks }
+
+    ran : Holds n d s.blocks s.tasks → IsWhole n d before x p.difference p.cells.got
+    ran k = ran_held laws n d s.control s.blocks s.tasks x count done got (rules_n P o s journal h) k hx
+        (at_active x.stage done got at)
+        (running_in n d s.blocks x.command x.stage done got at (k.running x hx))
+        (inl (offset, differs))
+
+    whole : IsRestricted o (journal ++ e ∷ []) → IsWhole o.blocks d before x (Some offset) p.cells.got
+    whole r =
+        let held = h.holds (restricted_before o journal e r) in
+        subst (λ k. IsWhole k d before x (Some offset) p.cells.got) h.frame.size
+        (subst (λ f. IsWhole n d before x f p.cells.got) differs
+        (ran (subst (λ k. Holds k d s.blocks s.tasks) (sym h.frame.size) held)))
+
+    held : IsRestricted o (journal ++ e ∷ []) →
+        IsWhole o.blocks (serial_disk o (journal ++ e ∷ [])) now w (Some offset) p.cells.got
+    held r =
+        let k = whole r in
+        let same = sym (with_with (at_stage Over w) w s.tasks refl) in
+        subst (λ disk. IsWhole o.blocks disk now w (Some offset) p.cells.got) (sym (serial-same o journal e refl))
+        (subst (λ q. Holds o.blocks (execute d x.command).disk p.cells.blocks q) same k.0, k.1)
 
 -- a command that is refused when it would begin, or has no block operation, ends at once
 pub once_ends : (P : ℕ → ℕ → Type 0) (laws : Laws) (o : Opening) (s : State) (journal : List Logged) (x : Task) → Inv P o s journal → Has s.tasks x → x.stage ≡ Waiting → IsReady o.blocks (is_unrestricted s.control) x s.tasks → IsOnce (refusal_of s.control o.blocks x.command) (plan_in o.blocks x.command) →
     Inv P o (over_state s x s.functions (execute (disk_of s) x.command).disk.control (execute (disk_of s) x.command).disk.blocks) (journal ++ replied (event.Ended x.no) (execute (disk_of s) x.command).reply ∷ [])
-once_ends P laws o s journal x h hx st ready is_once = entry_so P o s journal x e s.functions a.disk.control a.disk.blocks h hx (ap is_over st) (record {
-  lawful = record {
-    once = once_entry x.no journal (unended P o s journal x h.frame hx (ap is_over st));
-    orderly = λ k. in_order P laws o s journal x h hx st ready;
-    prefix = tt;
-    cells = λ k. absurd (both_ways _ unbegun k);
-    sound = (λ k. as_executed, λ c w k. absurd (both_ways _ unbegun k));
-    legal = λ r. as_executed;
-    by = tt;
-  };
-  entry = eq-eqb x.no x.no refl;
-  no_work = refl;
-  no_move = refl;
-  own = own_alone P o s journal x e.event h.frame hx (λ m. refl) (λ m i. i);
-  opens = opens_alone P o s journal x e h.frame hx (λ p hp ne. (ne_eqb x.no p.no ne, refl));
-  blocks_same = same.blocks;
-  rules = subst (λ w. Rules o.blocks (command_ran w d) a.disk.control (with_task (at_stage Over x) s.tasks)) (sym known)
-      (once_rules laws o.blocks (is_unrestricted s.control) d s.control s.blocks s.tasks x h.rules hx ready same);
-  holds = λ r. subst (λ w. Holds o.blocks (command_ran w d) a.disk.blocks (with_task (at_stage Over x) s.tasks)) (sym known)
-      (once_held o.blocks d s.control s.blocks s.tasks x h.rules (h.holds r) hx (ap is_waiting st) same);
-})
+once_ends P laws o s journal x h hx st ready is_once =
+    entry_so P o s journal x e s.functions a.disk.control a.disk.blocks (others_of P o s journal x.no h) hx
+    (ap is_over st) (record {
+      lawful = record {
+        once = once_entry x.no journal (unended P o s journal x h.frame hx (ap is_over st));
+        orderly = λ k. in_order P laws o s journal x h hx st ready;
+        prefix = tt;
+        cells = λ k. absurd (both_ways _ unbegun k);
+        sound = (λ k. as_executed, λ c w k. absurd (both_ways _ unbegun k));
+        legal = λ r. as_executed;
+        by = tt;
+      };
+      entry = eq-eqb x.no x.no refl;
+      no_work = refl;
+      no_move = refl;
+      own = own_alone P o s journal x e.event h.frame hx (λ m. refl) (λ m i. i);
+      opens = opens_alone P o s journal x e h.frame hx (λ p hp ne. (ne_eqb x.no p.no ne, refl));
+      blocks_same = same.blocks;
+      rules = subst (λ w. Rules o.blocks (command_ran w d) a.disk.control (with_task (at_stage Over x) s.tasks))
+          (sym known)
+          (once_rules laws o.blocks (is_unrestricted s.control) d s.control s.blocks s.tasks x h.rules hx ready same);
+      holds = λ r. subst (λ w. Holds o.blocks (command_ran w d) a.disk.blocks (with_task (at_stage Over x) s.tasks))
+          (sym known)
+          (once_held o.blocks d s.control s.blocks s.tasks x h.rules (h.holds r) hx (ap is_waiting st) same);
+    })
   where
     a : Execution
     a = execute (disk_of s) x.command
@@ -160,17 +257,20 @@ cut_is P o s journal x puts h hx = ap (λ w. command_cut puts w (serial_disk o j
 pub cut_so : (P : ℕ → ℕ → Type 0) (o : Opening) (s : State) (journal : List Logged) (x : Task) (e : Logged) (why : Why) (told_so : Bool) (functions : List Open) → Inv P o s journal → Has s.tasks x → is_over x.stage ≡ false →
     e.event ≡ event.Cut x.no (puts_at o.blocks x) why told_so → e.work ≡ None → LawfulAt o journal e → Own s x e.event → Opens P (journal ++ e ∷ []) s.arrivals s.tasks functions s.to_a s.to_b →
     Inv P o (over_state s x functions s.control s.blocks) (journal ++ e ∷ [])
-cut_so P o s journal x e why told_so functions h hx alive is no_work lawful own opens = entry_so P o s journal x e functions s.control s.blocks h hx alive (record {
-  lawful = lawful;
-  entry = ap (is_entry x.no) is ∙ eq-eqb x.no x.no refl;
-  no_work = no_work;
-  no_move = ap is_move is;
-  own = own;
-  opens = opens;
-  blocks_same = refl;
-  rules = subst (λ k. Rules o.blocks k s.control (with_task (at_stage Over x) s.tasks)) (sym now) (cut_rules o.blocks (puts_at o.blocks x) d s.control s.tasks x h.rules hx);
-  holds = λ r. subst (λ k. Holds o.blocks k s.blocks (with_task (at_stage Over x) s.tasks)) (sym now) (cut_held o.blocks d s.blocks s.tasks x h.rules.sized (h.holds r) h.rules.single hx);
-})
+cut_so P o s journal x e why told_so functions h hx alive is no_work lawful own opens =
+    entry_so P o s journal x e functions s.control s.blocks (others_of P o s journal x.no h) hx alive (record {
+      lawful = lawful;
+      entry = ap (is_entry x.no) is ∙ eq-eqb x.no x.no refl;
+      no_work = no_work;
+      no_move = ap is_move is;
+      own = own;
+      opens = opens;
+      blocks_same = refl;
+      rules = subst (λ k. Rules o.blocks k s.control (with_task (at_stage Over x) s.tasks)) (sym now)
+          (cut_rules o.blocks (puts_at o.blocks x) d s.control s.tasks x h.rules hx);
+      holds = λ r. subst (λ k. Holds o.blocks k s.blocks (with_task (at_stage Over x) s.tasks)) (sym now)
+          (cut_held o.blocks d s.blocks s.tasks x h.rules.sized (h.holds r) h.rules.single hx);
+    })
   where
     d : Disk
     d = serial_disk o journal

@@ -25,7 +25,7 @@ use Rattle.ct_machine.specs.Acts.{Turn, turned_cause, entering_with, taking_in, 
 use Rattle.ct_law.proofs.Tasks.{Has, has_found, has_without, has_with, has_queued}
 use Rattle.ct_law.proofs.Messages.{is_arrival, is_end, is_grant, Sent, push_sent, push_last, append_sent}
 use Rattle.ct_law.proofs.Books.{is_over}
-use Rattle.ct_law.proofs.Blocks.{after_all_size}
+use Rattle.ct_plan.proofs.Performing.{size_after_all}
 use Rattle.ct_law.proofs.Laws.{Laws}
 use Rattle.ct_law.proofs.Runs.{is_free, Turning, asks, closes_all, comes_to_b, acts}
 
@@ -226,7 +226,9 @@ fine_moved : (size : ℕ) (s : State) (x : Task) (count done : ℕ) (got : List 
 fine_moved size s x count done got h =
     let cells : Cells = cells_after x count done got s in
     let now : State = record s { blocks = cells.blocks } in
-    let same : length cells.blocks ≡ length s.blocks = after_all_size x.command.out (take count (drop done (plan_in (length s.blocks) x.command))) (record { blocks = s.blocks; got = got }) in
+    let operations = take count (drop done (plan_in (length s.blocks) x.command)) in
+    let same : length cells.blocks ≡ length s.blocks =
+    size_after_all x.command.out operations (record { blocks = s.blocks; got = got }) in
     fine_turns size now (at_stage (further x.stage (done + count) cells.got) x) (told_further now.to_a now.to_b x.stage (done + count) cells.got x) (fine_blocks size s cells.blocks same h)
 
 fine_moved_at : (size : ℕ) (s : State) (stage : Stage) (x : Task) (count : ℕ) → IsFine size s → IsFine size (moved_at stage x count s)

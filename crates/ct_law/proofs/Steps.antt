@@ -1,5 +1,5 @@
 -- Events that leave the stages of the task set, messages, and commands that come, enter, or are over.
-use Rattle.std.proofs.Common.{◌≡◌, ℕ, ◌+◌, inl, inr, Bool, true, false, ◌||◌, List, [], ◌∷◌, ◌++◌, Some, length, refl, sym, ap, ◌∙◌, subst, ⊎_elim, arith}
+use Rattle.std.proofs.Common.{◌≡◌, ℕ, ◌+◌, inl, Bool, true, false, ◌||◌, List, [], ◌∷◌, ◌++◌, Some, None, length, refl, sym, ap, ◌∙◌, subst, ⊎_elim, arith}
 use Rattle.std.proofs.lemmas.Bool.{both_ways}
 use Rattle.std.proofs.lemmas.List.{map-append}
 use Rattle.ct_word.specs.declared.names.Node.{Node}
@@ -15,7 +15,7 @@ use Rattle.ct_machine.specs.declared.act.Opening.{Opening}
 use Rattle.ct_machine.specs.States.{Task, Message, Arrival, State, arrival_of, queued}
 use Rattle.ct_machine.specs.Events.{message, to_b_if, came_at_b, answered, new_task}
 use Rattle.ct_machine.specs.Serial.{serial_disk}
-use Rattle.ct_machine.specs.Laws.{has, is_entry, is_enter, IsRestricted}
+use Rattle.ct_machine.specs.Laws.{has, is_entry, is_enter, IsRestricted, beside}
 use Rattle.ct_law.proofs.Tasks.{Has, has_queued}
 use Rattle.ct_law.proofs.Held.{Rules, Holds, is_active, rules_in, enters_held}
 use Rattle.ct_law.proofs.Journal.{each_more, has_same, has_stays, has_more, quiet, Untouched, untouched_more}
@@ -24,7 +24,7 @@ use Rattle.ct_law.proofs.Messages.{is_end, is_stop, Sent, stop_other}
 use Rattle.ct_law.proofs.Books.{Books, IsAsk, books_in}
 use Rattle.ct_law.proofs.Orders.{orders_event, orders_in}
 use Rattle.ct_law.proofs.Opens.{opens_came, opens_event, opens_queue, opens_a, opens_b}
-use Rattle.ct_law.proofs.Inv.{LawfulAt, Inv, got_at, told, restricted_before, serial-same, cells_event, cells_quiet}
+use Rattle.ct_law.proofs.Inv.{LawfulAt, Gained, Inv, got_at, told, restricted_before, serial-same, cells_event, cells_quiet}
 
 -- the serial disk and what holds of it are as they were
 pub rules_same : (o : Opening) (journal : List Logged) (e : Logged) (control : ControlState) (tasks : List Task) → serial_disk o (journal ++ e ∷ []) ≡ serial_disk o journal → Rules o.blocks (serial_disk o journal) control tasks → Rules o.blocks (serial_disk o (journal ++ e ∷ [])) control tasks
@@ -106,9 +106,14 @@ enter_so P o s journal n node c h u new at = record {
         (opens_event P journal s.arrivals s.tasks s.functions s.to_a s.to_b e (λ p hp. (refl, refl)) h.frame.opens);
   };
   rules = rules_same o journal e s.control (queued w s.tasks) (serial-same o journal e refl) (rules_in o.blocks (serial_disk o journal) s.control s.tasks w h.rules refl other);
-  cells = cells_event o s (record s { tasks = queued w s.tasks }) journal e h.cells refl refl
-      (λ y m alive. ⊎_elim (λ (k : Has s.tasks y). inl (record { task = y; has = k; no = refl; alive = alive; got = refl })) (λ (k : w ≡ y). inr (subst (λ (z : Task). (has (is_enter z.no) journal ≡ false) × (got_at z.stage ≡ [])) k (u.enter, refl))) (has_queued w s.tasks y m))
-      (λ m k. (or_false (has (is_enter m) journal) (is_enter m e.event) (sym (has_more (is_enter m) journal e) ∙ k)));
+  cells = cells_event o s (record s { tasks = queued w s.tasks }) journal e refl refl h.cells.blocks
+      (λ y m alive. ⊎_elim
+      (λ (k : Has s.tasks y). h.cells.gained y k alive)
+      (λ (k : w ≡ y).
+      subst (λ (z : Task). Gained (beside o z.no journal) None (got_at z.stage)) k (h.cells.ungained n u.enter))
+      (has_queued w s.tasks y m))
+      (λ m k. h.cells.ungained m
+      (or_false (has (is_enter m) journal) (is_enter m e.event) (sym (has_more (is_enter m) journal e) ∙ k)));
   holds = holds_same o journal e s.blocks (queued w s.tasks) (serial-same o journal e refl) (λ r. enters_held o.blocks (serial_disk o journal) s.blocks s.tasks w (h.holds r) refl);
 }
   where

@@ -59,9 +59,15 @@ stays_so P o s journal h = subst (λ j. Now P o s j) (sym (append-nil journal)) 
 pub then_so : (P : ℕ → ℕ → Type 0) (o : Opening) (journal : List Logged) (t : Turn) (next : State → Turn) → After P o (journal ++ t.journal) (next t.state) → After P o journal (followed t next)
 then_so P o journal t next h = subst (λ j. Now P o (next t.state).state j) (append_assoc journal t.journal (next t.state).journal) h
 
+pub replayed : (o : Opening) (s : State) (journal : List Logged) (l : Logged) →
+    s ≡ replay o journal → after s l ≡ replay o (journal ++ l ∷ [])
+replayed o s journal l at = ap (λ t. after t l) at ∙ sym (replay-more o journal l)
+
 -- one event, in the state that it leaves
-pub wrote : (P Q : ℕ → ℕ → Type 0) (o : Opening) (s now : State) (journal : List Logged) (l : Logged) → Now P o s journal → after s l ≡ now → Inv Q o now (journal ++ l ∷ []) → After Q o journal (writes l s)
-wrote P Q o s now journal l h e inv = record { inv = subst (λ t. Inv Q o t (journal ++ l ∷ [])) (sym e) inv; at = ap (λ t. after t l) h.at ∙ sym (replay-more o journal l) }
+pub wrote : (P : ℕ → ℕ → Type 0) (o : Opening) (s now : State) (journal : List Logged) (l : Logged) →
+    s ≡ replay o journal → after s l ≡ now → Inv P o now (journal ++ l ∷ []) → After P o journal (writes l s)
+wrote P o s now journal l at e inv =
+    record { inv = subst (λ t. Inv P o t (journal ++ l ∷ [])) (sym e) inv; at = replayed o s journal l at }
 
 -- what a number is, that has come and of which nothing was said yet
 pub record Fresh (s : State) (journal : List Logged) (n : ℕ) : Type 0 where
@@ -92,8 +98,9 @@ entering_so o s journal n node c h f came = go (turned_cause s c) refl
     known = ap (numbered n) (sym h.inv.frame.works) ∙ numbered-map (λ (a : Arrival). a.work) n s.arrivals _ came
 
     go : (cause : Option Reply) → turned_cause s c ≡ cause → After NoneDue o journal (entering_with cause n s)
-    go None e = wrote NoneDue NoneDue o s _ journal (told (event.Enter n)) h (after_entered n node c s came) (enter_so NoneDue o s journal n node c h.inv f.untouched f.unasked came)
-    go (Some reply) e = wrote NoneDue NoneDue o s _ journal (replied (event.Turned n) reply) h (after_turned n reply s)
+    go None e = wrote NoneDue o s _ journal (told (event.Enter n)) h.at (after_entered n node c s came)
+        (enter_so NoneDue o s journal n node c h.inv f.untouched f.unasked came)
+    go (Some reply) e = wrote NoneDue o s _ journal (replied (event.Turned n) reply) h.at (after_turned n reply s)
         (answers NoneDue o s (journal ++ replied (event.Turned n) reply ∷ []) kind.Reply n refl
         (turned_so NoneDue o s journal n reply h.inv f.untouched f.unasked f.within (c, known, sym e ∙ ap (λ t. turned_cause t c) h.at, refl)
         (fresh_other NoneDue o s journal n h.inv f) (fresh_closed NoneDue o s journal n h.inv f)))
@@ -120,7 +127,8 @@ pub closing_so : (laws : Laws) (o : Opening) (s : State) (journal : List Logged)
 closing_so laws o s journal n h = go (function_of n s.functions) refl
   where
     empty : (ns : List ℕ) (p : Open) → p.awaits ≡ ns → HasOpen s.functions p → function_of p.no s.functions ≡ Some p → After NoneDue o journal (closing_if ns p s)
-    empty [] p e hp found = wrote NoneDue NoneDue o s _ journal (told (event.Closed p.no (outcome_of p.ask s))) h (after_closing p.no (outcome_of p.ask s) (Some p) s found)
+    empty [] p e hp found = wrote NoneDue o s _ journal (told (event.Closed p.no (outcome_of p.ask s))) h.at
+        (after_closing p.no (outcome_of p.ask s) (Some p) s found)
         (answers NoneDue o (closed (Some p) s) (journal ++ told (event.Closed p.no (outcome_of p.ask s)) ∷ []) kind.Response p.no refl (closes_so NoneDue laws o s journal p (λ f m k. k) h.inv hp e))
     empty (m ∷ ms) p e hp found = stays_so NoneDue o s journal h
 
@@ -249,7 +257,7 @@ cut_one o start s journal n node ask m ms x h c hx xm found hit here = record {
     left = leaves_so (Due n ask start (m ∷ ms)) o s journal' x (noted n x.no s.functions) s.control s.blocks (has_now (is_entry x.no) journal e (eq-eqb x.no x.no refl)) over
 
     now : Now (Due n ask start (m ∷ ms)) o t journal'
-    now = wrote _ _ o s _ journal e h state left
+    now = wrote _ o s _ journal e h.at state left
 
     other : x.no ≡ n → ⊥
     other k =
@@ -332,7 +340,8 @@ asking_so laws o s journal n node ask h f came = go (nat_le most_open (length s.
     state = after_taken_up n node ask s came
 
     asked : Now (Due n ask start (numbers_of start)) o first.state (journal ++ e ∷ [])
-    asked = wrote NoneDue (Due n ask start (numbers_of start)) o s _ journal e h state (asked_so NoneDue o s journal n node ask (λ g m k. k) h.inv f.untouched f.unasked f.within came)
+    asked = wrote (Due n ask start (numbers_of start)) o s _ journal e h.at state
+        (asked_so NoneDue o s journal n node ask (λ g m k. k) h.inv f.untouched f.unasked f.within came)
 
     begins : Cutting start first.state (journal ++ e ∷ []) n node ask
     begins = record {
@@ -354,6 +363,7 @@ asking_so laws o s journal n node ask h f came = go (nat_le most_open (length s.
     cut = none_due o start two.state (journal ++ two.journal) n ask (then_so (Due n ask start []) o journal first rest (cut_all o start (numbers_of start) first.state (journal ++ e ∷ []) n node ask asked begins))
 
     go : (t : Bool) → After NoneDue o journal (cond t (says (event.Closed n Rejected) s) (taking_up n ask s))
-    go true = wrote NoneDue NoneDue o s _ journal (told (event.Closed n Rejected)) h (after_rejected n s (none_open n s.functions (fresh_closed NoneDue o s journal n h.inv f)))
+    go true = wrote NoneDue o s _ journal (told (event.Closed n Rejected)) h.at
+        (after_rejected n s (none_open n s.functions (fresh_closed NoneDue o s journal n h.inv f)))
         (answers NoneDue o s (journal ++ told (event.Closed n Rejected) ∷ []) kind.Response n refl (rejected_so NoneDue o s journal n node ask h.inv f.untouched f.unasked f.within came))
     go false = then_so NoneDue o journal two (λ cut. closing (function_of n cut.functions) cut) (closing_so laws o two.state (journal ++ two.journal) n cut)

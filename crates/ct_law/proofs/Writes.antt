@@ -1,5 +1,5 @@
 -- An act by which something happened writes an event.
-use Rattle.std.proofs.Common.{◌≡◌, ℕ, zero, suc, ◌+◌, ◌≤◌, Bool, true, false, List, [], ◌∷◌, ◌++◌, Option, Some, None, length, take, drop, refl, sym, ap, ◌∙◌, subst, arith, cond}
+use Rattle.std.proofs.Common.{◌≡◌, ℕ, zero, suc, ◌+◌, ◌≤◌, Bool, true, false, List, [], ◌∷◌, Option, Some, None, length, take, drop, refl, sym, ap, ◌∙◌, arith, cond}
 use Rattle.std.specs.Prelude.{◌≢◌, nat_le}
 use Rattle.std.specs.List.{list_any}
 use Rattle.std.proofs.lemmas.Bool.{both_ways, le-leb}
@@ -8,7 +8,7 @@ use Rattle.ct_word.specs.declared.names.Node.{Node}
 use Rattle.ct_word.specs.declared.names.Node.TheVariants.{A, B}
 use Rattle.ct_sense.specs.declared.reply.Reply.{Reply}
 use Rattle.ct_plan.specs.declared.operation.BlockOp.{BlockOp}
-use Rattle.ct_plan.specs.Cells.{Progress, performed}
+use Rattle.ct_plan.specs.Cells.{Cells, Progress, performed}
 use Rattle.ct_book.specs.declared.work.Work.TheVariants as work
 use Rattle.ct_book.specs.declared.event.Logged.{Logged}
 use Rattle.ct_book.specs.Journals.{KeptWork}
@@ -22,20 +22,11 @@ use Rattle.ct_plan.specs.Pieces.{tried}
 use Rattle.ct_machine.specs.Acts.{Turn, nothing, followed, moving_on, failing_if, moved_to, moving_from, is_granted, beginning_at, beginning, Done, next_number, has_room_for, arriving_at, arriving, blocked_by, beginning_unless, stepping_at, is_sent, stepping, delivering_first, messages_to, delivering, next_step, stepping_next, doing_next, doing, act_of}
 use Rattle.ct_machine.specs.Runs.{replay, IsAllowed}
 use Rattle.ct_machine.specs.Laws.{is_void, ActsWrite}
-use Rattle.ct_law.proofs.Blocks.{perform_done}
-use Rattle.ct_law.proofs.Commands.{no_difference}
+use Rattle.ct_law.proofs.Blocks.{none_made}
 
 -- something was written
 abbrev Writes : Turn → Type 0
 Writes t = t.journal ≢ []
-
-first_writes : (es fs : List Logged) → es ≢ [] → es ++ fs ≢ []
-first_writes [] fs h e = h refl
-first_writes (l ∷ es) fs h e = cc
-
-last_writes : (es fs : List Logged) → fs ≢ [] → es ++ fs ≢ []
-last_writes [] fs h e = h e
-last_writes (l ∷ es) fs h e = cc
 
 -- of a plan that isn't done there are operations left
 some_left : (count done : ℕ) (plan : List BlockOp) → 1 ≤ count → nat_le (length plan) done ≡ false → take count (drop done plan) ≢ []
@@ -47,13 +38,15 @@ some_left count done plan positive left e = go count (drop done plan) refl posit
     go (suc k) (op ∷ rest) r p e = cc
 
 -- no operation was tried, though there were some: the medium fails the first
-fails_first : (out : List ℕ) (operations : List BlockOp) (fault : Option ℕ) (x : Task) (plan : List BlockOp) (done : ℕ) (s : State) → operations ≢ [] → length (tried operations fault) ≡ 0 → Writes (failing_if x plan done operations fault s)
-fails_first out [] fault x plan done s some none = absurd (some refl)
-fails_first out (op ∷ ops) None x plan done s some none = absurd (omega arith)
-fails_first out (op ∷ ops) (Some zero) x plan done s some none = λ e. cc
-fails_first out (op ∷ ops) (Some (suc f)) x plan done s some none = absurd (omega arith)
+fails_first : (operations : List BlockOp) (fault : Option ℕ) (x : Task) (plan : List BlockOp) (done : ℕ) (s : State) →
+    operations ≢ [] → tried operations fault ≡ [] → Writes (failing_if x plan done operations fault s)
+fails_first [] fault x plan done s some none = absurd (some refl)
+fails_first (op ∷ ops) None x plan done s some none = absurd (some none)
+fails_first (op ∷ ops) (Some zero) x plan done s some none = λ e. cc
+fails_first (op ∷ ops) (Some (suc f)) x plan done s some none = absurd (cc)
 
-pub moving_writes : (x : Task) (count : ℕ) (fault : Option ℕ) (done : ℕ) (got : List ℕ) (s : State) → 1 ≤ count → Writes (moving_from x count fault done got s)
+pub moving_writes : (x : Task) (count : ℕ) (fault : Option ℕ) (done : ℕ) (got : List ℕ) (s : State) →
+    1 ≤ count → Writes (moving_from x count fault done got s)
 moving_writes x count fault done got s positive = go progress.made refl
   where
     plan : List BlockOp
@@ -62,30 +55,31 @@ moving_writes x count fault done got s positive = go progress.made refl
     operations : List BlockOp
     operations = take count (drop done plan)
 
+    here : Cells
+    here = record { blocks = s.blocks; got = got }
+
     progress : Progress
-    progress = performed x.command.out (tried operations fault) (record { blocks = s.blocks; got = got })
+    progress = performed x.command.out (tried operations fault) here
 
-    same : progress.difference ≡ None
-    same = no_difference x.command.out (tried operations fault) (record { blocks = s.blocks; got = got })
+    last : Option ℕ → Bool → State → Turn
+    last difference ended t =
+        moved_to difference ended x plan (done + progress.made) progress.cells.got operations fault t
 
-    size : progress.made ≡ length (tried operations fault)
-    size = perform_done x.command.out (tried operations fault) (record { blocks = s.blocks; got = got }) same
+    ends : (difference : Option ℕ) (t : Bool) → nat_le (length plan) (done + progress.made) ≡ t → progress.made ≡ 0 →
+        Writes (last difference t s)
+    ends (Some offset) t e none = λ k. cc
+    ends None true e none = λ k. cc
+    ends None false e none =
+        let still : done + progress.made ≡ done = omega (arith, none) in
+        let some = some_left count done plan positive (ap (λ m. nat_le (length plan) m) (sym still) ∙ e) in
+        fails_first operations fault x plan (done + progress.made) s some
+        (none_made x.command.out (tried operations fault) here none)
 
-    ends : (t : Bool) → nat_le (length plan) (done + progress.made) ≡ t → progress.made ≡ 0 → (s' : State) → Writes (moved_to None t x plan (done + progress.made) progress.cells.got operations fault s')
-    ends true e none s' = λ k. cc
-    ends false e none s' = fails_first x.command.out operations fault x plan (done + progress.made) s' (some_left count done plan positive (ap (λ m. nat_le (length plan) m) (let n = none in omega (arith, n)) ∙ e)) (sym size ∙ none)
-
-    moved : (m : ℕ) → Turn
-    moved m = moving_on x.no m s
-
-    last : (s' : State) → Turn
-    last s' = moved_to progress.difference (nat_le (length plan) (done + progress.made)) x plan (done + progress.made) progress.cells.got operations fault s'
-
-    go : (m : ℕ) → progress.made ≡ m → Writes (followed (moving_on x.no progress.made s) last)
-    go zero e = last_writes (moving_on x.no progress.made s).journal (last (moving_on x.no progress.made s).state).journal
-        (subst (λ (d : Option ℕ). Writes (moved_to d (nat_le (length plan) (done + progress.made)) x plan (done + progress.made) progress.cells.got operations fault (moving_on x.no progress.made s).state)) (sym same)
-        (ends (nat_le (length plan) (done + progress.made)) refl e (moving_on x.no progress.made s).state))
-    go (suc m) e = first_writes (moving_on x.no progress.made s).journal (last (moving_on x.no progress.made s).state).journal (subst (λ (k : ℕ). Writes (moving_on x.no k s)) (sym e) (λ k. cc))
+    -- where none was made, nothing was written yet
+    go : (m : ℕ) → progress.made ≡ m →
+        Writes (followed (moving_on x.no m s) (last progress.difference (nat_le (length plan) (done + progress.made))))
+    go zero e = ends progress.difference (nat_le (length plan) (done + progress.made)) refl e
+    go (suc m) e = λ k. cc
 
 begin_writes : (refused : Option Reply) (plan : List BlockOp) (x : Task) (count : ℕ) (fault : Option ℕ) (s : State) → Writes (beginning refused plan x count fault s)
 begin_writes (Some reply) plan x count fault s e = cc
