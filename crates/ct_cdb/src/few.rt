@@ -1,4 +1,4 @@
-ghost use Rattle.std.specs.Prelude.{◌≡◌, ◌≤◌, [], ◌∷◌, length};
+ghost use Rattle.std.specs.Prelude.{◌≡◌, ◌≤◌, [], ◌∷◌, length, slice_get};
 ghost use Rattle.std.specs.Option.{option_copied};
 
 use std::marker::Model;
@@ -67,6 +67,19 @@ impl<T> Few<T> {
             (None, _) => 0,
             (Some(_), None) => 1,
             (Some(_), Some(_)) => 2,
+        }
+    }
+}
+
+impl<T: Copy> Few<T> {
+    /// An item by its place, from 0.
+    pub fn get(&self, at: usize) -> Option<T>
+        ensures { result ≡ slice_get self.now at }
+    {
+        match at {
+            0 => self.first,
+            1 if self.first.is_some() => self.second,
+            _ => None,
         }
     }
 }

@@ -1,7 +1,8 @@
 -- A plan in pieces, and as a whole.
-use Rattle.std.proofs.Common.{◌≡◌, ℕ, zero, suc, ◌+◌, ◌*◌, ◌<◌, ◌≤◌, Bool, true, false, ◌&&◌, List, [], ◌∷◌, ◌++◌, length, length-append, sum, Option, Some, None, option_map, option_or, take, drop, set, get_or, refl, sym, ap, ◌∙◌, subst, arith, append_assoc, append-nil, drop-drop, take-append-drop, drop-set-lt, leb-true, add-zero}
+use Rattle.std.proofs.Common.{◌≡◌, ℕ, zero, suc, ◌+◌, ◌*◌, ◌<◌, ◌≤◌, Bool, true, false, ◌&&◌, List, [], ◌∷◌, ◌++◌, length, length-append, sum, Option, Some, None, option_map, take, drop, set, get_or, refl, sym, ap, ◌∙◌, subst, arith, append_assoc, append-nil, drop-drop, take-append-drop, drop-set-lt, leb-true, add-zero}
 use Rattle.std.proofs.Math.Seq.{take-add}
 use Rattle.std.specs.List.{concat, list_all}
+use Rattle.std.specs.Option.{option_or}
 use Rattle.std.proofs.lemmas.List.Sums.{sum_by-cons}
 use Rattle.std.proofs.lemmas.List.Folds.{concat-append}
 use Rattle.std.proofs.lemmas.List.{drop_more, take_more_set, length-take, length-drop}
@@ -122,11 +123,14 @@ even_from out phase count place (lba ∷ lbas) cells none =
 
 compared_cells : (out : List ℕ) (count place : ℕ) (lbas : List ℕ) (cells : Cells) → (performed out (operations_from phase.Compare count place lbas) cells).cells ≡ cells
 compared_cells out count place [] cells = refl
-compared_cells out count place (lba ∷ lbas) cells = go (difference_at out (operation_of phase.Compare count place lba) cells)
+compared_cells out count place (lba ∷ lbas) cells = go (difference_at out (operation_of phase.Compare count place lba) cells) (compared_cells out count (place + 1) lbas cells)
   where
-    go : (d : Option ℕ) → (unless d cells (performed out (operations_from phase.Compare count (place + 1) lbas) cells)).cells ≡ cells
-    go None = compared_cells out count (place + 1) lbas cells
-    go (Some offset) = refl
+    rest : Progress
+    rest = performed out (operations_from phase.Compare count (place + 1) lbas) cells
+
+    go : (d : Option ℕ) → rest.cells ≡ cells → (unless d cells rest).cells ≡ cells
+    go None same = same
+    go (Some offset) same = refl
 
 compared_next : (d : Option ℕ) (cells : Cells) (rest : Progress) → (unless d cells rest).difference ≡ option_or d rest.difference
 compared_next None cells rest = refl
@@ -247,7 +251,10 @@ phase_still out ranges phase.Compare cells offset found = refl
 -- the operations of phases end as the phases do at once
 pub whole_phases : (out : List ℕ) (ranges : List LbaRange) (phases : List Phase) (cells : Cells) → list_all (is_inside (length cells.blocks)) ranges ≡ true → EndsAs (performed out (planned phases ranges) cells) (effect out ranges phases cells)
 whole_phases out ranges [] cells inside = record { difference = refl; cells = refl }
-whole_phases out ranges (phase ∷ phases) cells inside = go (difference_of out ranges phase cells) refl
+whole_phases out ranges (phase ∷ phases) cells inside =
+    let comes = phase_comes out ranges phase cells inside in
+    let size : length (after_phase out ranges phase cells).blocks ≡ length cells.blocks = sym (ap (λ (c : Cells). length c.blocks) comes.1) ∙ perform_size out (operations_in phase ranges) cells in
+    go comes (whole_phases out ranges phases (after_phase out ranges phase cells) (rw size inside)) (difference_of out ranges phase cells) refl
   where
     ops : List BlockOp
     ops = operations_in phase ranges
@@ -255,33 +262,22 @@ whole_phases out ranges (phase ∷ phases) cells inside = go (difference_of out 
     first : Progress
     first = performed out ops cells
 
-    comes : Comes out ranges phase cells
-    comes = phase_comes out ranges phase cells inside
-
     next : Progress
     next = performed out (planned phases ranges) first.cells
 
     after : Cells
     after = after_phase out ranges phase cells
 
-    size : length after.blocks ≡ length cells.blocks
-    size = sym (ap (λ (c : Cells). length c.blocks) comes.1) ∙ perform_size out ops cells
-
-    rest : EndsAs (performed out (planned phases ranges) after) (effect out ranges phases after)
-    rest = whole_phases out ranges phases after (rw size inside)
-
-    all : performed out (planned (phase ∷ phases) ranges) cells ≡ joined_where (difference_of out ranges phase cells) first next
-    all = performed-append out ops (planned phases ranges) cells ∙ ap (λ (d : Option ℕ). joined_where d first next) comes.0
-
-    go : (d : Option ℕ) → difference_of out ranges phase cells ≡ d → EndsAs (performed out (planned (phase ∷ phases) ranges) cells) (ended_by d cells (effect out ranges phases after))
-    go None e =
-        let so = all ∙ ap (λ (d : Option ℕ). joined_where d first next) e ∙ ap (λ (c : Cells). joined_where None first (performed out (planned phases ranges) c)) comes.1 in
+    go : Comes out ranges phase cells → EndsAs (performed out (planned phases ranges) after) (effect out ranges phases after) → (d : Option ℕ) → difference_of out ranges phase cells ≡ d
+        → EndsAs (performed out (planned (phase ∷ phases) ranges) cells) (ended_by d cells (effect out ranges phases after))
+    go comes rest None e =
+        let so = performed-append out ops (planned phases ranges) cells ∙ ap (λ (d : Option ℕ). joined_where d first next) (comes.0 ∙ e) ∙ ap (λ (c : Cells). joined_where None first (performed out (planned phases ranges) c)) comes.1 in
         record {
           difference = ap (λ (p : Progress). p.difference) so ∙ rest.difference;
           cells = ap (λ (p : Progress). p.cells) so ∙ rest.cells;
         }
-    go (Some offset) e =
-        let so = all ∙ ap (λ (d : Option ℕ). joined_where d first next) e in
+    go comes rest (Some offset) e =
+        let so = performed-append out ops (planned phases ranges) cells ∙ ap (λ (d : Option ℕ). joined_where d first next) (comes.0 ∙ e) in
         record {
           difference = ap (λ (p : Progress). p.difference) so ∙ comes.0 ∙ e;
           cells = ap (λ (p : Progress). p.cells) so ∙ comes.1 ∙ phase_still out ranges phase cells offset e;

@@ -93,7 +93,7 @@ get_of phase.Compare count place lba = refl
 gets_from : (phase : Phase) (count place : ℕ) (lbas : List ℕ) → gets_among (operations_from phase count place lbas) ≡ cond (gives phase) (length lbas) 0
 gets_from phase count place [] = go (gives phase)
   where
-    go : (given : Bool) → 0 ≡ cond given 0 0
+    go : (given : Bool) → ◌≡◌ {A = ℕ} 0 (cond given 0 0)
     go true = refl
     go false = refl
 gets_from phase count place (lba ∷ lbas) =

@@ -1,5 +1,5 @@
 -- The plan of a command: its block operations, in the order in which they are made. It is read off the command's row.
-use Rattle.std.specs.Prelude.{ℕ, zero, suc, ◌+◌, List, [], ◌∷◌, ◌++◌, Bool, true, false, if◌then◌else◌}
+use Rattle.std.specs.Prelude.{ℕ, zero, suc, ◌+◌, List, [], ◌∷◌, ◌++◌, Bool, true, false, if◌then◌else◌, Option, None, Some}
 use Rattle.ct_cdb.specs.declared.profile.Phase.{Phase}
 use Rattle.ct_cdb.specs.declared.profile.Phase.TheVariants as phase
 use Rattle.ct_cdb.specs.declared.profile.Profile.{Profile}
@@ -57,9 +57,10 @@ abbrev pub puts_among : List BlockOp → ℕ
 puts_among [] = 0
 puts_among (operation ∷ others) = if is_put operation then suc (puts_among others) else puts_among others
 
--- of so many operations of a phase those that are puts
-abbrev pub puts_in : Phase → ℕ → ℕ
-puts_in phase made = if writes phase then made else 0
+-- of so many operations of a phase, if there is one, those that are puts
+abbrev pub puts_by : Option Phase → ℕ → ℕ
+puts_by None made = 0
+puts_by (Some phase) made = if writes phase then made else 0
 
 -- it gives a block to the initiator
 abbrev pub is_get : BlockOp → Bool

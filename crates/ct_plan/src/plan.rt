@@ -1,6 +1,6 @@
-ghost use Rattle.std.specs.Prelude.{◌≡◌, ◌^◌, ◌<◌, ◌≤◌, length, take, slice_get, Some};
+ghost use Rattle.std.specs.Prelude.{◌≡◌, ◌+◌, ◌*◌, ◌^◌, ◌<◌, ◌≤◌, length, take, slice_get, Some};
 ghost use Rattle.ct_cdb.specs.Profiles.{Fits, profile_of};
-ghost use Rattle.ct_plan.specs.Plans.{operation_of, plan_of, need_of, puts_among, puts_in};
+ghost use Rattle.ct_plan.specs.Plans.{operation_of, plan_of, need_of, puts_among, puts_by};
 ghost use Rattle.ct_plan.specs.Tasks.{IsTold};
 
 use crate::operation::BlockOp;
@@ -88,11 +88,7 @@ impl Plan {
     {
         let made = done.min(self.count);
         let behind = done.saturating_sub(self.count).min(self.count);
-        match self.phases.items() {
-            (None, _) => 0,
-            (Some(first), None) => puts_in(*first, made),
-            (Some(first), Some(second)) => puts_in(*first, made) + puts_in(*second, behind),
-        }
+        puts_by(self.phases.get(0), made) + puts_by(self.phases.get(1), behind)
     }
 
     /// The operation behind the first `done` ones.
@@ -101,15 +97,11 @@ impl Plan {
         ensures value { slice_get self.now.operations done ≡ Some result }
         ensures told { IsTold result }
     {
-        match self.phases.items() {
-            (Some(first), _) if done < self.count => {
-                operation_of(*first, self.count, done, self.ranges.lba_at(done))
-            }
-            (Some(_), Some(second)) => {
-                let place = done - self.count;
-                operation_of(*second, self.count, place, self.ranges.lba_at(place))
-            }
-            _ => unreachable!(),
+        let (at, place) = split(done, self.count);
+        let lba = self.ranges.lba_at(place);
+        match self.phases.get(at) {
+            Some(phase) => operation_of(phase, self.count, place, lba),
+            None => unreachable!(),
         }
     }
 
@@ -118,12 +110,21 @@ impl Plan {
         requires { done < length self.now.operations }
         ensures { result < self.now.need }
     {
-        let place = if done < self.count {
-            done
-        } else {
-            done - self.count
-        };
+        let (_, place) = split(done, self.count);
         place.min(self.need - 1)
+    }
+}
+
+// Of two phases on so many blocks, the one at whose turn so many operations are done, and its next place.
+fn split(done: u32, count: u32) -> (usize, u32)
+    requires { done < 2 * count }
+    ensures place { result.1 < count }
+    ensures sum { result.0 * count + result.1 ≡ done }
+{
+    if done < count {
+        (0, done)
+    } else {
+        (1, done - count)
     }
 }
 
@@ -145,12 +146,12 @@ fn operation_of(phase: Phase, count: u32, place: u32, lba: u32) -> BlockOp
     }
 }
 
-// The puts among so many operations of a phase.
-fn puts_in(phase: Phase, made: u32) -> u32
-    ensures { result ≡ puts_in phase made }
+// The puts among so many operations of a phase, if there is one.
+fn puts_by(phase: Option<Phase>, made: u32) -> u32
+    ensures { result ≡ puts_by phase made }
 {
     match phase {
-        Phase::Put | Phase::PutSecondHalf | Phase::PutSame | Phase::Zero => made,
-        Phase::Get | Phase::Look | Phase::Compare => 0,
+        Some(Phase::Put | Phase::PutSecondHalf | Phase::PutSame | Phase::Zero) => made,
+        Some(Phase::Get | Phase::Look | Phase::Compare) | None => 0,
     }
 }
