@@ -9,8 +9,9 @@ use Rattle.ct_plan.specs.declared.task.Task.{Task as PlanTask}
 use Rattle.ct_plan.specs.declared.task.Piece.{Piece}
 use Rattle.ct_plan.specs.declared.task.PieceEnd.{PieceEnd}
 use Rattle.ct_plan.specs.declared.task.PieceEnd.TheVariants.{All}
-use Rattle.ct_plan.specs.Cells.{Cells, performed}
-use Rattle.ct_plan.specs.Pieces.{Advances, fault_in, fault_behind, end_of}
+use Rattle.ct_plan.specs.Cells.{Progress, performed}
+use Rattle.ct_plan.specs.Pieces.{Advances, fault_in, fault_behind, tried, unfailed_end, end_of}
+use Rattle.ct_plan.specs.Tasks.{cells_of}
 use Rattle.ct_book.specs.declared.event.Event.TheVariants as event
 use Rattle.ct_book.specs.declared.event.Why.TheVariants.{Medium}
 use Rattle.ct_book.specs.declared.event.Logged.{Logged}
@@ -19,7 +20,6 @@ use Rattle.ct_exec.specs.Executions.{plan_in}
 use Rattle.ct_machine.specs.declared.act.Answer.{Answer}
 use Rattle.ct_machine.specs.declared.act.Answer.TheVariants as answer
 use Rattle.ct_machine.specs.Events.{after_events}
-use Rattle.ct_plan.specs.Pieces.{tried}
 use Rattle.ct_machine.specs.Acts.{Done, ends, moved_answer, moving_on, moving_from}
 use Rattle.ct_lun.specs.declared.slot.Slot.{Slot}
 use Rattle.ct_lun.specs.Apart.{Each}
@@ -30,7 +30,7 @@ use Rattle.ct_lun.specs.Acts.{going}
 use Rattle.ct_lun.specs.Calls.{Goes, Wrote, Spends, Does, IsOver, by_end, by_medium, moved_book, moved_journal}
 use Rattle.ct_lun.proofs.Lists.{slot_read, each_at, each_put}
 use Rattle.ct_lun.proofs.Keeps.{slot_agrees}
-use Rattle.ct_lun.proofs.Turns.{moving_at, part_journal, part_answer}
+use Rattle.ct_lun.proofs.Turns.{difference_of, difference_kept, moving_at, part_journal, part_answer}
 use Rattle.ct_lun.proofs.Effects.{wrote_then}
 use Rattle.ct_lun.proofs.Moves.{slot_cells, slot_progress, slot_made, moved_wrote, moved_fewer}
 use Rattle.ct_lun.proofs.Spent.{moved_spends}
@@ -118,15 +118,31 @@ if_some : (test : Bool) (end other : PieceEnd) → Some other ≡ (if test then 
 if_some true end other e = refl
 if_some false end other e = cc
 
-pub still_left : (out : List ℕ) (operations : List BlockOp) (old new : PlanTask) (before after' : List (List ℕ)) (piece : Piece) → Advances out operations old new before after' piece (fault_in piece) → piece.end ≡ None → (new.done == length new.plan.operations) ≡ false
-still_left out operations old new before after' piece a e =
-    let none : fault_in piece ≡ None = unfaulted piece None e refl in
-    if_none (new.done == length new.plan.operations) All (sym e ∙ a.end ∙ ap (end_of new operations) none)
+-- the end of a piece that neither a fault nor a difference ended
+unfailed : (out : List ℕ) (ops : List BlockOp) (old new : PlanTask) (before after' : List (List ℕ)) (piece : Piece)
+    → Advances out ops old new before after' piece (fault_in piece)
+    → (end : Option PieceEnd) → piece.end ≡ end → fault_behind piece.moved end ≡ None → difference_of end ≡ None
+    → end ≡ unfailed_end new
+unfailed out ops old new before after' piece a end e none even =
+    let far : Progress = performed out (tried ops (fault_in piece)) (cells_of before old) in
+    let difference : far.difference ≡ None =
+    sym (difference_kept new ops (fault_in piece) far.difference) ∙ ap difference_of (sym a.end ∙ e) ∙ even in
+    sym e ∙ a.end ∙ ap (λ (f : Option ℕ). end_of new ops f far.difference) (unfaulted piece end e none)
+    ∙ ap (end_of new ops None) difference
 
-pub at_end : (out : List ℕ) (operations : List BlockOp) (old new : PlanTask) (before after' : List (List ℕ)) (piece : Piece) → Advances out operations old new before after' piece (fault_in piece) → piece.end ≡ Some All → (new.done == length new.plan.operations) ≡ true
-at_end out operations old new before after' piece a e =
-    let none : fault_in piece ≡ None = unfaulted piece (Some All) e refl in
-    if_some (new.done == length new.plan.operations) All All (sym e ∙ a.end ∙ ap (end_of new operations) none)
+pub still_left : (out : List ℕ) (ops : List BlockOp) (old new : PlanTask) (before after' : List (List ℕ))
+    → (piece : Piece) → Advances out ops old new before after' piece (fault_in piece) → piece.end ≡ None
+    → (new.done == length new.plan.operations) ≡ false
+still_left out ops old new before after' piece a e =
+    if_none (new.done == length new.plan.operations) All
+    (unfailed out ops old new before after' piece a None e refl refl)
+
+pub at_end : (out : List ℕ) (ops : List BlockOp) (old new : PlanTask) (before after' : List (List ℕ))
+    → (piece : Piece) → Advances out ops old new before after' piece (fault_in piece) → piece.end ≡ Some All
+    → (new.done == length new.plan.operations) ≡ true
+at_end out ops old new before after' piece a e =
+    if_some (new.done == length new.plan.operations) All All
+    (unfailed out ops old new before after' piece a (Some All) e refl refl)
 
 pub each_left : (d : Desk) (p : BookState) (at : ℕ) → AgreesWith d p → at < length d.slots → (slot_at d.slots at).begun ≡ true → (slot_at d.slots at).task.done < length (slot_at d.slots at).task.plan.operations
 each_left d p at a h begun = each_at IsLeft d.slots at (slot_at d.slots at) a.left (slot_read d.slots at h) begun
@@ -150,10 +166,12 @@ part_does d d' p p' at count piece a h begun room g book ended =
     let unended : (g.task.done == length g.task.plan.operations) ≡ false = still_left (command_in p.works slot.no).out _ slot.task g.task d.blocks d'.blocks piece g.moved ended in
     let left : g.task.done < length g.task.plan.operations = unequal g.task.done (length g.task.plan.operations) unended (omega (arith, few, size, g.moved.done)) in
     let test : nat_le (length plan) (slot.task.done + piece.moved) ≡ false = test_false (length plan) (slot.task.done + piece.moved) (omega (arith, left, size, g.moved.done)) in
-    let progress = subst (λ (f : Option ℕ). performed (command_in p.works slot.no).out (tried (take count (drop slot.task.done plan)) f) (slot_cells d at) ≡ record { made = piece.moved; difference = None; cells = record { blocks = d'.blocks; got = g.task.body.items } }) none (slot_progress d d' p at count piece a.base h g) in
-    let cells : Cells = record { blocks = d'.blocks; got = g.task.body.items } in
+    let far : Progress = record { made = piece.moved; difference = None; cells = cells_of d'.blocks g.task } in
+    let asked : List BlockOp = take count (drop slot.task.done plan) in
+    let progress = subst (λ (f : Option ℕ). performed task.command.out (tried asked f) (slot_cells d at) ≡ far) none
+    (slot_progress d d' p at count piece a.base h g None (ap difference_of ended)) in
     let journal : (moving_from task count None slot.task.done slot.task.body.items (state_of d p)).journal ≡ moved_journal slot.no piece.moved =
-    moving_at task count None slot.task.done slot.task.body.items (state_of d p) piece.moved cells progress
+    moving_at task count None slot.task.done slot.task.body.items (state_of d p) far progress
     ∙ ap (λ (j : List Logged). moved_journal slot.no piece.moved ++ j) (part_journal task plan (slot.task.done + piece.moved) g.task.body.items (take count (drop slot.task.done plan)) (moving_on slot.no piece.moved (state_of d p)).state test)
     ∙ append-nil (moved_journal slot.no piece.moved) in
     let quiet : list_any (λ (logged : Logged). ends slot.no logged.event) (moved_journal slot.no piece.moved) ≡ false = moved_quiet slot.no piece.moved in

@@ -1,15 +1,14 @@
 -- A command that began goes on.
-use Rattle.std.proofs.Common.{◌≡◌, ℕ, zero, suc, ◌+◌, ◌<◌, ◌≤◌, List, true, Option, None, length, take, drop, slice_set, refl, sym, ap, ◌∙◌, arith}
+use Rattle.std.proofs.Common.{◌≡◌, ℕ, zero, suc, ◌+◌, ◌<◌, ◌≤◌, List, true, Option, length, take, drop, slice_set, refl, sym, ap, ◌∙◌, subst, arith}
 use Rattle.ct_plan.specs.declared.operation.BlockOp.{BlockOp}
 use Rattle.ct_plan.specs.declared.task.Piece.{Piece}
 use Rattle.ct_plan.specs.Cells.{Cells, performed, after_all}
 use Rattle.ct_plan.specs.Tasks.{cells_of}
-use Rattle.ct_plan.specs.Pieces.{fault_in}
+use Rattle.ct_plan.specs.Pieces.{fault_in, tried}
 use Rattle.ct_book.specs.Journals.{BookState}
 use Rattle.ct_exec.specs.Executions.{plan_in}
 use Rattle.ct_machine.specs.States.{Stage, Here, Task, State, task_of, with_task, at_stage}
 use Rattle.ct_machine.specs.Events.{after, after_events, after_moved, moved_at, cells_after}
-use Rattle.ct_plan.specs.Pieces.{tried}
 use Rattle.ct_lun.specs.declared.slot.Slot.{Slot}
 use Rattle.ct_lun.specs.Desk.{Desk, slot_at}
 use Rattle.ct_lun.specs.States.{command_in, stage_of, task_in, tasks_in, state_of}
@@ -18,7 +17,7 @@ use Rattle.ct_lun.specs.Calls.{Goes, Wrote, moved_journal, moved_book}
 use Rattle.ct_lun.proofs.Lists.{slot_read, map_same}
 use Rattle.ct_lun.proofs.Tasks.{with_at}
 use Rattle.ct_lun.proofs.Keeps.{slot_agrees, task_found, agrees_moved}
-use Rattle.ct_lun.proofs.Turns.{Made, made_by, piece_progress}
+use Rattle.ct_lun.proofs.Turns.{difference_of, Made, made_by, piece_progress}
 use Rattle.ct_lun.proofs.Effects.{stage_begun}
 
 -- the blocks and the data of a slot
@@ -26,21 +25,40 @@ abbrev pub slot_cells : Desk → ℕ → Cells
 slot_cells d at = cells_of d.blocks (slot_at d.slots at).task
 
 -- what the machine performs is what the piece made
-pub slot_progress : (d d' : Desk) (p : BookState) (at count : ℕ) (piece : Piece) → Agrees d p → at < length d.slots → (g : Goes d d' at count (command_in p.works (slot_at d.slots at).no).out piece)
-    → performed (command_in p.works (slot_at d.slots at).no).out (tried (take count (drop (slot_at d.slots at).task.done (plan_in (length d.blocks) (command_in p.works (slot_at d.slots at).no)))) (fault_in piece)) (slot_cells d at)
-    ≡ record { made = piece.moved; difference = None; cells = record { blocks = d'.blocks; got = g.task.body.items } }
-slot_progress d d' p at count piece a h g =
+pub slot_progress : (d d' : Desk) (p : BookState) (at count : ℕ) (piece : Piece) → Agrees d p → at < length d.slots
+    → (g : Goes d d' at count (command_in p.works (slot_at d.slots at).no).out piece)
+    → (difference : Option ℕ) → difference_of piece.end ≡ difference
+    → performed (command_in p.works (slot_at d.slots at).no).out
+    (tried (take count (drop (slot_at d.slots at).task.done
+    (plan_in (length d.blocks) (command_in p.works (slot_at d.slots at).no)))) (fault_in piece)) (slot_cells d at)
+    ≡ record {
+      made = piece.moved;
+      difference = difference;
+      cells = record { blocks = d'.blocks; got = g.task.body.items };
+    }
+slot_progress d d' p at count piece a h g difference found =
     let slot = slot_at d.slots at in
+    let out = (command_in p.works slot.no).out in
     let sa : SlotAgrees (length d.blocks) d.pool p.works p.replies slot = slot_agrees d p at a h in
-    ap (λ (plan : List BlockOp). performed (command_in p.works slot.no).out (tried (take count (drop slot.task.done plan)) (fault_in piece)) (slot_cells d at)) (sym sa.operations)
-    ∙ piece_progress (command_in p.works slot.no).out (take count (drop slot.task.done slot.task.plan.operations)) slot.task g.task d.blocks d'.blocks piece (fault_in piece) g.moved
+    let asked = take count (drop slot.task.done slot.task.plan.operations) in
+    ap (λ (plan : List BlockOp). performed out (tried (take count (drop slot.task.done plan)) (fault_in piece))
+    (slot_cells d at)) (sym sa.operations)
+    ∙ piece_progress out asked slot.task g.task d.blocks d'.blocks piece (fault_in piece) g.moved
+    ∙ ap (λ (f : Option ℕ). record { made = piece.moved; difference = f; cells = cells_of d'.blocks g.task }) found
 
-pub slot_made : (d d' : Desk) (p : BookState) (at count : ℕ) (piece : Piece) → Agrees d p → at < length d.slots → (g : Goes d d' at count (command_in p.works (slot_at d.slots at).no).out piece)
-    → Made (command_in p.works (slot_at d.slots at).no).out (drop (slot_at d.slots at).task.done (plan_in (length d.blocks) (command_in p.works (slot_at d.slots at).no))) piece.moved (slot_cells d at) (record { blocks = d'.blocks; got = g.task.body.items })
+pub slot_made : (d d' : Desk) (p : BookState) (at count : ℕ) (piece : Piece) → Agrees d p → at < length d.slots
+    → (g : Goes d d' at count (command_in p.works (slot_at d.slots at).no).out piece)
+    → Made (command_in p.works (slot_at d.slots at).no).out
+    (drop (slot_at d.slots at).task.done (plan_in (length d.blocks) (command_in p.works (slot_at d.slots at).no)))
+    piece.moved (slot_cells d at) (record { blocks = d'.blocks; got = g.task.body.items })
 slot_made d d' p at count piece a h g =
     let slot = slot_at d.slots at in
-    made_by (command_in p.works slot.no).out count (drop slot.task.done (plan_in (length d.blocks) (command_in p.works slot.no))) (fault_in piece) piece.moved (slot_cells d at) (record { blocks = d'.blocks; got = g.task.body.items })
-    (slot_progress d d' p at count piece a h g)
+    let out = (command_in p.works slot.no).out in
+    let sa : SlotAgrees (length d.blocks) d.pool p.works p.replies slot = slot_agrees d p at a h in
+    subst (λ (plan : List BlockOp). Made out (drop slot.task.done plan) piece.moved (slot_cells d at)
+    (cells_of d'.blocks g.task)) sa.operations
+    (made_by out (drop slot.task.done slot.task.plan.operations) count slot.task g.task d.blocks d'.blocks piece
+    (fault_in piece) g.moved)
 
 moved_here : (task : Task) (done : ℕ) (got : List ℕ) (count : ℕ) (s : State) → task.stage ≡ Here done got
     → moved_at task.stage task count s ≡ record s { tasks = with_task (at_stage (Here (done + count) (cells_after task count done got s).got) task) s.tasks; blocks = (cells_after task count done got s).blocks }

@@ -6,16 +6,18 @@ use Rattle.ct_sense.specs.declared.reply.Reply.{Reply}
 use Rattle.ct_plan.specs.declared.operation.BlockOp.{BlockOp}
 use Rattle.ct_plan.specs.declared.task.Piece.{Piece}
 use Rattle.ct_plan.specs.declared.task.PieceEnd.{PieceEnd}
-use Rattle.ct_plan.specs.declared.task.PieceEnd.TheVariants.{All, ReadFault, WriteFault}
+use Rattle.ct_plan.specs.declared.task.PieceEnd.TheVariants.{All, Miscompare, ReadFault, WriteFault}
 use Rattle.ct_plan.specs.Plans.{puts_among}
+use Rattle.ct_plan.specs.Cells.{Progress}
 use Rattle.ct_plan.specs.Pieces.{fault_in, fault_behind}
+use Rattle.ct_plan.specs.Tasks.{cells_of}
 use Rattle.ct_plan.proofs.Lists.{slice_get-drop, slice_get-take, slice_get-within}
 use Rattle.ct_book.specs.declared.event.Event.{Event}
 use Rattle.ct_book.specs.declared.event.Event.TheVariants as event
 use Rattle.ct_book.specs.declared.event.Why.TheVariants.{Medium}
 use Rattle.ct_book.specs.declared.event.Logged.{Logged}
 use Rattle.ct_book.specs.Journals.{BookState}
-use Rattle.ct_exec.specs.Executions.{good, reply_failed, plan_in}
+use Rattle.ct_exec.specs.Executions.{good, reply_moved, reply_failed, plan_in}
 use Rattle.ct_machine.specs.declared.act.Answer.TheVariants as answer
 use Rattle.ct_machine.specs.States.{State, arrival_of}
 use Rattle.ct_machine.specs.Acts.{ends, moved_answer, moved_to, moving_on, moving_from, line_by}
@@ -29,7 +31,7 @@ use Rattle.ct_lun.specs.declared.said.Reached.TheVariants as reached
 use Rattle.ct_lun.specs.Reached.{reached_by}
 use Rattle.ct_lun.proofs.Lists.{each_drop, remove_set}
 use Rattle.ct_lun.proofs.Keeps.{slot_agrees}
-use Rattle.ct_lun.proofs.Turns.{moving_at, moving_on_state, end_journal, cut_journal, moved_says, ended_answer, ends_ended, ends_cut}
+use Rattle.ct_lun.proofs.Turns.{difference_of, moving_at, moving_on_state, end_journal, cut_journal, moved_says, ended_answer, ends_ended, ends_cut}
 use Rattle.ct_lun.proofs.Effects.{wrote_then, over_wrote}
 use Rattle.ct_lun.proofs.Moves.{slot_progress, moved_wrote, moved_few, moved_fewer}
 use Rattle.ct_lun.proofs.Spent.{left_spends, moved_spends}
@@ -78,12 +80,46 @@ end_does d d1 d' p p1 p' at count piece reply a h begun room g book l told close
     let whole : g.task.done ≡ length g.task.plan.operations = equal g.task.done (length g.task.plan.operations) (at_end out _ slot.task g.task d.blocks d1.blocks piece g.moved ended) in
     let size : length g.task.plan.operations ≡ length plan = ap (λ pl. length pl.operations) g.moved.plan ∙ ap (λ (ops : List BlockOp). length ops) sa.operations in
     let test : nat_le (length plan) (slot.task.done + piece.moved) ≡ true = test_true (length plan) (slot.task.done + piece.moved) (omega (arith, whole, size, g.moved.done)) in
+    let far : Progress = record { made = piece.moved; difference = None; cells = cells_of d1.blocks g.task } in
     let body : reply ≡ good g.task.body.items = told ∙ ap (λ (s : Slot). good s.task.body.items) (gone_slot d d1 at count out piece h g) in
     over_does d d1 d' p p1 p' at count piece (event.Ended slot.no) reply a h begun room g book by_end l closed
-    (moving_at (task_in p.works slot) count (fault_in piece) slot.task.done slot.task.body.items (state_of d p) piece.moved (record { blocks = d1.blocks; got = g.task.body.items }) (slot_progress d d1 p at count piece a.base h g)
+    (moving_at (task_in p.works slot) count (fault_in piece) slot.task.done slot.task.body.items (state_of d p) far
+    (slot_progress d d1 p at count piece a.base h g None (ap difference_of ended))
     ∙ ap (λ (j : List Logged). moved_journal slot.no piece.moved ++ j)
     (end_journal (task_in p.works slot) plan (slot.task.done + piece.moved) g.task.body.items (take count (drop slot.task.done plan)) (fault_in piece) (moving_on slot.no piece.moved (state_of d p)).state test
     ∙ ap (λ (r : Reply). replied (event.Ended slot.no) r ∷ []) (sym body)))
+
+-- it finds a difference
+pub differs_does : (d d1 d' : Desk) (p p1 p' : BookState) (at count : ℕ) (piece : Piece) (offset : ℕ) (reply : Reply)
+    → AgreesWith d p → at < length d.slots → (slot_at d.slots at).begun ≡ true → 2 ≤ p.spare
+    → Goes d d1 at count (command_in p.works (slot_at d.slots at).no).out piece
+    → p1 ≡ moved_book p (slot_at d.slots at).no piece.moved → Leaves d1 d' at
+    → reply ≡ reply_moved d1.control (Some offset) []
+    → p' ≡ closed_book p1 (slot_at d.slots at).no reply (event.Ended (slot_at d.slots at).no)
+    → piece.end ≡ Some (Miscompare offset)
+    → Does d d' p p' (going d p at count)
+    (answer.Ended (slot_at d.slots at).no (line_by (arrival_of (slot_at d.slots at).no (state_of d p))))
+differs_does d d1 d' p p1 p' at count piece offset reply a h begun room g book l why closed ended =
+    let slot = slot_at d.slots at in
+    let moved : State = (moving_on slot.no piece.moved (state_of d p)).state in
+    let far : Progress = record { made = piece.moved; difference = Some offset; cells = cells_of d1.blocks g.task } in
+    let after : moved ≡ state_of d1 p1 =
+    moving_on_state slot.no piece.moved (state_of d p)
+    ∙ sym (moved_wrote d d1 p p1 at count piece a.base h begun g (omega arith) book).state in
+    let told : reply_moved moved.control (Some offset) [] ≡ reply =
+    ap (λ (s : State). reply_moved s.control (Some offset) []) after ∙ sym why in
+    over_does d d1 d' p p1 p' at count piece (event.Ended slot.no) reply a h begun room g book by_end l closed
+    (moving_at (task_in p.works slot) count (fault_in piece) slot.task.done slot.task.body.items (state_of d p) far
+    (slot_progress d d1 p at count piece a.base h g (Some offset) (ap difference_of ended))
+    ∙ ap (λ (r : Reply). moved_journal slot.no piece.moved ++ replied (event.Ended slot.no) r ∷ []) told)
+
+-- a piece that ended in a fault found no difference
+fault_even : (moved : ℕ) (end : Option PieceEnd) → fault_behind moved end ≡ Some moved → difference_of end ≡ None
+fault_even moved None fault = refl
+fault_even moved (Some All) fault = refl
+fault_even moved (Some (Miscompare offset)) fault = absurd (cc)
+fault_even moved (Some (ReadFault lba)) fault = refl
+fault_even moved (Some (WriteFault lba)) fault = refl
 
 -- the medium fails it
 pub cut_does : (d d1 d' : Desk) (p p1 p' : BookState) (at count : ℕ) (piece : Piece) (operation : BlockOp) (reply : Reply) (puts : ℕ) → AgreesWith d p → at < length d.slots → (slot_at d.slots at).begun ≡ true → 2 ≤ p.spare
@@ -99,6 +135,7 @@ cut_does d d1 d' p p1 p' at count piece operation reply puts a h begun room g bo
     let gone : slot_at d1.slots at ≡ record slot { task = g.task } = gone_slot d d1 at count out piece h g in
     let planned : (slot_at d1.slots at).task.plan.operations ≡ plan = ap (λ (s : Slot). s.task.plan.operations) gone ∙ ap (λ pl. pl.operations) g.moved.plan ∙ sa.operations in
     let done : (slot_at d1.slots at).task.done ≡ slot.task.done + piece.moved = ap (λ (s : Slot). s.task.done) gone ∙ g.moved.done in
+    let far : Progress = record { made = piece.moved; difference = None; cells = cells_of d1.blocks g.task } in
     let operations = take count (drop slot.task.done plan) in
     let within : piece.moved < length operations = subst (λ (ops : List BlockOp). piece.moved < length (take count (drop slot.task.done ops))) sa.operations (rw fault at g.moved.within) in
     let few : piece.moved < count = omega (arith, within, length-take count (drop slot.task.done plan)) in
@@ -109,7 +146,8 @@ cut_does d d1 d' p p1 p' at count piece operation reply puts a h begun room g bo
     let told_why : reply_failed (moving_on slot.no piece.moved (state_of d p)).state.control operation ≡ reply = ap (λ (s : State). reply_failed s.control operation) after ∙ sym why in
     let told_puts : puts_among (take (slot.task.done + piece.moved) plan) ≡ puts = sym (rw (done, planned) at counted) in
     over_does d d1 d' p p1 p' at count piece (event.Cut slot.no puts Medium false) reply a h begun room g book (by_medium puts) l closed
-    (moving_at (task_in p.works slot) count (fault_in piece) slot.task.done slot.task.body.items (state_of d p) piece.moved (record { blocks = d1.blocks; got = g.task.body.items }) (slot_progress d d1 p at count piece a.base h g)
+    (moving_at (task_in p.works slot) count (fault_in piece) slot.task.done slot.task.body.items (state_of d p) far
+    (slot_progress d d1 p at count piece a.base h g None (fault_even piece.moved piece.end fault))
     ∙ ap (λ (f : Option ℕ). moved_journal slot.no piece.moved ++ (moved_to None (nat_le (length plan) (slot.task.done + piece.moved)) (task_in p.works slot) plan (slot.task.done + piece.moved) g.task.body.items operations f (moving_on slot.no piece.moved (state_of d p)).state).journal) fault
     ∙ ap (λ (j : List Logged). moved_journal slot.no piece.moved ++ j)
     (cut_journal (task_in p.works slot) plan (slot.task.done + piece.moved) g.task.body.items operations piece.moved operation (moving_on slot.no piece.moved (state_of d p)).state test found
@@ -121,18 +159,29 @@ cut_does d d1 d' p p1 p' at count piece operation reply puts a h begun room g bo
 pub reached_part : (end : Option PieceEnd) → reached_by end ≡ reached.Part → end ≡ None
 reached_part None e = refl
 reached_part (Some All) e = cc
+reached_part (Some (Miscompare offset)) e = cc
 reached_part (Some (ReadFault lba)) e = cc
 reached_part (Some (WriteFault lba)) e = cc
 
 pub reached_end : (end : Option PieceEnd) → reached_by end ≡ reached.End → end ≡ Some All
 reached_end None e = cc
 reached_end (Some All) e = refl
+reached_end (Some (Miscompare offset)) e = cc
 reached_end (Some (ReadFault lba)) e = cc
 reached_end (Some (WriteFault lba)) e = cc
+
+pub reached_differs : (end : Option PieceEnd) (offset : ℕ)
+    → reached_by end ≡ reached.Differs offset → end ≡ Some (Miscompare offset)
+reached_differs None offset e = cc
+reached_differs (Some All) offset e = cc
+reached_differs (Some (Miscompare other)) offset e = cc
+reached_differs (Some (ReadFault lba)) offset e = cc
+reached_differs (Some (WriteFault lba)) offset e = cc
 
 fault_known : (moved : ℕ) (end : Option PieceEnd) → reached_by end ≡ reached.Fault → fault_behind moved end ≡ Some moved
 fault_known moved None e = cc
 fault_known moved (Some All) e = cc
+fault_known moved (Some (Miscompare offset)) e = cc
 fault_known moved (Some (ReadFault lba)) e = refl
 fault_known moved (Some (WriteFault lba)) e = refl
 

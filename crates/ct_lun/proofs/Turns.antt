@@ -1,18 +1,20 @@
 -- What the machine writes of a command that moves, or is over at once.
-use Rattle.std.proofs.Common.{◌≡◌, ℕ, zero, suc, ◌+◌, ◌<◌, ◌≤◌, List, [], ◌∷◌, ◌++◌, Bool, true, false, ◌&&◌, nat_le, Option, Some, None, length, take, drop, slice_get, slice_index_or, replicate, refl, sym, ap, ◌∙◌, arith}
+use Rattle.std.proofs.Common.{◌≡◌, ℕ, zero, suc, ◌+◌, ◌≤◌, List, [], ◌∷◌, ◌++◌, Bool, true, false, ◌&&◌, ◌==◌, nat_le, if◌then◌else◌, Option, Some, None, option_map, length, take, drop, slice_get, slice_index_or, replicate, refl, sym, ap, ◌∙◌, arith, length-take, take-take}
 use Rattle.std.specs.List.{list_any}
-use Rattle.std.proofs.lemmas.List.{length-take-le}
 use Rattle.ct_word.specs.declared.names.Nexus.{Nexus}
 use Rattle.ct_word.specs.Nexuses.{no_nexuses, contains, place_of}
 use Rattle.ct_sense.specs.declared.reply.Reply.{Reply}
 use Rattle.ct_plan.specs.declared.operation.BlockOp.{BlockOp}
+use Rattle.ct_plan.specs.declared.operation.BlockOp.TheVariants as operations
 use Rattle.ct_plan.specs.declared.task.Task.{Task as PlanTask}
 use Rattle.ct_plan.specs.declared.task.Piece.{Piece}
+use Rattle.ct_plan.specs.declared.task.PieceEnd.{PieceEnd}
+use Rattle.ct_plan.specs.declared.task.PieceEnd.TheVariants.{All, Miscompare}
 use Rattle.ct_plan.specs.Plans.{puts_among}
 use Rattle.ct_plan.specs.Cells.{Cells, Progress, performed, after_all}
-use Rattle.ct_plan.specs.Pieces.{Advances}
+use Rattle.ct_plan.specs.Pieces.{Advances, tried, fault_of, end_of}
 use Rattle.ct_plan.specs.Tasks.{cells_of}
-use Rattle.ct_plan.proofs.Lists.{performed-all}
+use Rattle.ct_plan.proofs.Steps.{moved_within, cells_moved}
 use Rattle.ct_book.specs.declared.event.Event.TheVariants as event
 use Rattle.ct_book.specs.declared.event.Why.TheVariants.{Medium}
 use Rattle.ct_book.specs.declared.event.Logged.{Logged}
@@ -20,60 +22,65 @@ use Rattle.ct_exec.specs.Executions.{good, reply_failed, plan_in}
 use Rattle.ct_machine.specs.declared.act.Answer.TheVariants as answer
 use Rattle.ct_machine.specs.States.{Stage, Task, State, at_stage, is_waiting, task_of, arrival_of}
 use Rattle.ct_machine.specs.Events.{after_events, is_cleared}
-use Rattle.ct_plan.specs.Pieces.{tried}
 use Rattle.ct_machine.specs.Acts.{Turn, followed, moving_on, moved_to, failing, moving_from, ends, moved_answer, line_by, clearing, clearing_all}
 use Rattle.ct_lun.specs.Calls.{told, replied, moved_journal}
 use Rattle.ct_lun.proofs.Lists.{equal_number}
 
--- a piece made the operations that the machine tries
+-- the difference at which a piece ended
+abbrev pub difference_of : Option PieceEnd → Option ℕ
+difference_of (Some (Miscompare offset)) = Some offset
+difference_of _ = None
 
-pub piece_progress : (out : List ℕ) (operations : List BlockOp) (old new : PlanTask) (before after : List (List ℕ)) (piece : Piece) (fault : Option ℕ) → Advances out operations old new before after piece fault
-    → performed out (tried operations fault) (cells_of before old) ≡ record { made = piece.moved; difference = None; cells = record { blocks = after; got = new.body.items } }
-piece_progress out operations old new before after piece None a =
-    rw (a.moved, a.blocks, a.got, performed-all out operations (cells_of before old)) refl
-piece_progress out operations old new before after piece (Some place) a =
-    let within : place < length operations = a.within in
-    let count : length (take place operations) ≡ place = length-take-le place operations (omega arith) in
-    rw (a.moved, a.blocks, a.got, performed-all out (take place operations) (cells_of before old), count) refl
+pub difference_kept : (task : PlanTask) (ops : List BlockOp) (fault difference : Option ℕ)
+    → difference_of (end_of task ops fault difference) ≡ difference
+difference_kept task ops fault (Some offset) = refl
+difference_kept task ops None None = go (task.done == length task.plan.operations)
+  where
+    go : (test : Bool) → difference_of (if test then Some All else None) ≡ None
+    go true = refl
+    go false = refl
+difference_kept task ops (Some place) None = go (slice_get ops place)
+  where
+    go : (operation : Option BlockOp) → difference_of (option_map fault_of operation) ≡ None
+    go None = refl
+    go (Some (operations.Get lba)) = refl
+    go (Some (operations.Look lba)) = refl
+    go (Some (operations.Put lba place)) = refl
+    go (Some (operations.Zero lba)) = refl
+    go (Some (operations.Compare lba place)) = refl
 
--- the operations that are tried are the next ones
-take_prefix : {A : Type 0} (j : ℕ) (xs : List A) → take j xs ≡ take (length (take j xs)) xs
-take_prefix zero xs = refl
-take_prefix (suc j) [] = refl
-take_prefix (suc j) (x ∷ xs) = ap (λ rest. x ∷ rest) (take_prefix j xs)
+-- a piece came as far as the operations that the machine tries
 
-take_both : {A : Type 0} (j k : ℕ) (xs : List A) → take j (take k xs) ≡ take (length (take j (take k xs))) xs
-take_both zero k xs = refl
-take_both (suc j) zero xs = refl
-take_both (suc j) (suc k) [] = refl
-take_both (suc j) (suc k) (x ∷ xs) = ap (λ rest. x ∷ rest) (take_both j k xs)
-
-tried_next : (count : ℕ) (xs : List BlockOp) (fault : Option ℕ) → tried (take count xs) fault ≡ take (length (tried (take count xs) fault)) xs
-tried_next count xs None = take_prefix count xs
-tried_next count xs (Some place) = take_both place count xs
-
-length_take : {A : Type 0} (j : ℕ) (xs : List A) → length (take j xs) ≤ length xs
-length_take zero xs = omega arith
-length_take (suc j) [] = omega arith
-length_take (suc j) (x ∷ xs) = omega (arith, length_take j xs)
-
-tried_few : (count : ℕ) (xs : List BlockOp) (fault : Option ℕ) → length (tried (take count xs) fault) ≤ length xs
-tried_few count xs None = length_take count xs
-tried_few count xs (Some place) = omega (arith, length_take place (take count xs), length_take count xs)
+pub piece_progress : (out : List ℕ) (ops : List BlockOp) (old new : PlanTask) (before after : List (List ℕ))
+    → (piece : Piece) (fault : Option ℕ) → Advances out ops old new before after piece fault
+    → performed out (tried ops fault) (cells_of before old)
+    ≡ record {
+      made = piece.moved;
+      difference = difference_of piece.end;
+      cells = cells_of after new;
+    }
+piece_progress out ops old new before after piece fault a =
+    let far : Progress = performed out (tried ops fault) (cells_of before old) in
+    let difference : difference_of piece.end ≡ far.difference =
+    ap difference_of a.end ∙ difference_kept new ops fault far.difference in
+    rw (a.moved, a.blocks, a.got, difference) refl
 
 -- what a piece of so many operations did
 pub record Made (out : List ℕ) (xs : List BlockOp) (k : ℕ) (before after : Cells) : Type 0 where
   pub cells : after_all out (take k xs) before ≡ after
   pub few : k ≤ length xs
 
-pub made_by : (out : List ℕ) (count : ℕ) (xs : List BlockOp) (fault : Option ℕ) (k : ℕ) (before after : Cells) → performed out (tried (take count xs) fault) before ≡ record { made = k; difference = None; cells = after } → Made out xs k before after
-made_by out count xs fault k before after e =
-    let all = performed-all out (tried (take count xs) fault) before in
-    let size : length (tried (take count xs) fault) ≡ k = ap (λ (p : Progress). p.made) (sym all ∙ e) in
-    let next : tried (take count xs) fault ≡ take k xs = tried_next count xs fault ∙ ap (λ j. take j xs) size in
+pub made_by : (out : List ℕ) (xs : List BlockOp) (count : ℕ) (old new : PlanTask) (before after : List (List ℕ))
+    → (piece : Piece) (fault : Option ℕ) → Advances out (take count xs) old new before after piece fault
+    → Made out xs piece.moved (cells_of before old) (cells_of after new)
+made_by out xs count old new before after piece fault a =
+    let few = moved_within out (take count xs) old new before after piece fault a in
+    let front : take piece.moved (take count xs) ≡ take piece.moved xs =
+    take-take piece.moved count xs (omega (arith, few, length-take count xs)) in
     record {
-      cells = ap (λ ops. after_all out ops before) (sym next) ∙ ap (λ (p : Progress). p.cells) (sym all ∙ e);
-      few = omega (arith, size, tried_few count xs fault);
+      cells = ap (λ ops. after_all out ops (cells_of before old)) (sym front)
+          ∙ sym (cells_moved out (take count xs) old new before after piece fault a);
+      few = omega (arith, few, length-take count xs);
     }
 
 -- the turn of a command that moves
@@ -86,12 +93,23 @@ pub moving_on_state : (number count : ℕ) (s : State) → (moving_on number cou
 moving_on_state number zero s = refl
 moving_on_state number (suc count) s = refl
 
-pub moving_at : (t : Task) (count : ℕ) (fault : Option ℕ) (done : ℕ) (got : List ℕ) (s : State) (k : ℕ) (cells : Cells)
-    → performed t.command.out (tried (take count (drop done (plan_in (length s.blocks) t.command))) fault) (record { blocks = s.blocks; got = got }) ≡ record { made = k; difference = None; cells = cells }
-    → (moving_from t count fault done got s).journal ≡ moved_journal t.no k ++ (moved_to None (nat_le (length (plan_in (length s.blocks) t.command)) (done + k)) t (plan_in (length s.blocks) t.command) (done + k) cells.got (take count (drop done (plan_in (length s.blocks) t.command))) fault (moving_on t.no k s).state).journal
-moving_at t count fault done got s k cells e =
-    ap (λ (p : Progress). (followed (moving_on t.no p.made s) (moved_to p.difference (nat_le (length (plan_in (length s.blocks) t.command)) (done + p.made)) t (plan_in (length s.blocks) t.command) (done + p.made) p.cells.got (take count (drop done (plan_in (length s.blocks) t.command))) fault)).journal) e
-    ∙ ap (λ (j : List Logged). j ++ (moved_to None (nat_le (length (plan_in (length s.blocks) t.command)) (done + k)) t (plan_in (length s.blocks) t.command) (done + k) cells.got (take count (drop done (plan_in (length s.blocks) t.command))) fault (moving_on t.no k s).state).journal) (moving_on_journal t.no k s)
+pub moving_at : (t : Task) (count : ℕ) (fault : Option ℕ) (done : ℕ) (got : List ℕ) (s : State) (far : Progress)
+    → performed t.command.out (tried (take count (drop done (plan_in (length s.blocks) t.command))) fault)
+    (record { blocks = s.blocks; got = got })
+    ≡ far
+    → (moving_from t count fault done got s).journal
+    ≡ moved_journal t.no far.made
+    ++ (moved_to far.difference (nat_le (length (plan_in (length s.blocks) t.command)) (done + far.made)) t
+    (plan_in (length s.blocks) t.command) (done + far.made) far.cells.got
+    (take count (drop done (plan_in (length s.blocks) t.command))) fault (moving_on t.no far.made s).state).journal
+moving_at t count fault done got s far e =
+    let plan : List BlockOp = plan_in (length s.blocks) t.command in
+    let asked : List BlockOp = take count (drop done plan) in
+    let next : Progress → State → Turn =
+    λ p. moved_to p.difference (nat_le (length plan) (done + p.made)) t plan (done + p.made) p.cells.got asked fault in
+    ap (λ (p : Progress). (followed (moving_on t.no p.made s) (next p)).journal) e
+    ∙ ap (λ (j : List Logged). j ++ (next far (moving_on t.no far.made s).state).journal)
+    (moving_on_journal t.no far.made s)
 
 -- it goes on
 pub part_journal : (t : Task) (plan : List BlockOp) (done : ℕ) (got : List ℕ) (operations : List BlockOp) (s : State) → nat_le (length plan) done ≡ false → (moved_to None (nat_le (length plan) done) t plan done got operations None s).journal ≡ []

@@ -36,6 +36,11 @@ impl<B: Backend> Lun<B> {
                 self.finish(at, None, Event::Ended { no }, book);
                 Stepped::Ended
             }
+            Reached::Differs(offset) => {
+                let why = self.difference(offset);
+                self.finish(at, Some(why), Event::Ended { no }, book);
+                Stepped::Ended
+            }
             Reached::Fault => {
                 let (why, puts) = self.fault(at);
                 let event = Event::Cut {

@@ -7,7 +7,7 @@ ghost use Rattle.ct_word.specs.Nexuses.{no_nexuses};
 ghost use Rattle.ct_book.specs.Works.{room_for};
 ghost use Rattle.ct_book.specs.Journals.{numbered};
 ghost use Rattle.ct_book.specs.Kept.{IsCommandNo};
-ghost use Rattle.ct_exec.specs.Executions.{reply_failed, execute, refusal_of, plan_in};
+ghost use Rattle.ct_exec.specs.Executions.{reply_moved, reply_failed, execute, refusal_of, plan_in};
 ghost use Rattle.ct_exec.specs.Refusals.{refused_reply};
 ghost use Rattle.ct_lun.specs.Desk.{Desk, slot_at, with_control};
 ghost use Rattle.ct_lun.specs.States.{command_in};
@@ -17,7 +17,7 @@ ghost use Rattle.ct_lun.specs.Calls.{Goes, Leaves, IsOver, EndsAtOnce, Wrote, Sp
 use crate::mechanics::command;
 use crate::unit::Lun;
 use ct_book::{Book, Command, Event};
-use ct_exec::{Refusal, failed, instant, moved_reply};
+use ct_exec::{Refusal, failed, instant, miscompared, moved_reply};
 use ct_matrix::Waits;
 use ct_medium::Backend;
 use ct_plan::Piece;
@@ -51,6 +51,13 @@ impl<B: Backend> Lun<B> {
         let task = &self.slot(at).task;
         let why = failed(&self.control, task.plan.next(task.done));
         (why, task.plan.writes_done(task.done))
+    }
+
+    /// Why a command ended that found a difference, at this byte of its data-out.
+    pub(crate) fn difference(&self, offset: u32) -> Refusal
+        ensures { refused_reply result ≡ reply_moved self.now.control (Some offset) [] }
+    {
+        miscompared(&self.control, offset)
     }
 
     /// Takes a command out with its reply, and writes by which event it is over.

@@ -29,6 +29,8 @@ pub enum Stepped {
 pub enum Reached {
     Part,
     End,
+    /// It found a difference, at this byte of the data-out.
+    Differs(u32),
     Fault,
 }
 
@@ -38,6 +40,7 @@ pub(crate) fn how_far(end: Option<PieceEnd>) -> Reached
     match end {
         None => Reached::Part,
         Some(PieceEnd::All) => Reached::End,
+        Some(PieceEnd::Miscompare(offset)) => Reached::Differs(offset),
         Some(PieceEnd::ReadFault(_) | PieceEnd::WriteFault(_)) => Reached::Fault,
     }
 }

@@ -1,4 +1,4 @@
-use Rattle.std.proofs.Common.{◌≡◌, ℕ, Option, Some, refl, sym, ap, ◌∙◌, subst, arith}
+use Rattle.std.proofs.Common.{◌≡◌, ℕ, List, Option, Some, refl, sym, ap, ◌∙◌, subst, arith}
 use Rattle.std.proofs.Common.{slice_get, get_or, IfSome, false}
 use Rattle.std.proofs.lemmas.Option.{slice_get-get_or}
 use Rattle.ct_sense.specs.declared.reply.Reply.{Reply}
@@ -9,6 +9,7 @@ use Rattle.ct_plan.specs.declared.task.Piece.{Piece}
 use Rattle.ct_plan.specs.Pieces.{fault_in}
 use Rattle.ct_book.specs.declared.event.Event.TheVariants as event
 use Rattle.ct_book.specs.declared.event.Why.TheVariants.{Medium}
+use Rattle.ct_book.specs.Journals.{BookState}
 use Rattle.ct_exec.specs.Executions.{good, reply_failed}
 use Rattle.ct_exec.specs.Refusals.{refused_reply}
 use Rattle.ct_lun.specs.declared.slot.Slot.{Slot}
@@ -17,12 +18,18 @@ use Rattle.ct_lun.specs.States.{command_in}
 use Rattle.ct_lun.specs.Calls.{Goes, closed_book}
 use Rattle.ct_lun.proofs.Does.{gone_slot, gone_within, gone_end, gone_cut, part_does}
 use Rattle.ct_lun.proofs.Moves.{moved_wrote}
-use Rattle.ct_lun.proofs.Overs.{reached_part, reached_end, reached_fault, fault_left, end_does, cut_does}
+use Rattle.ct_lun.proofs.Overs.{reached_part, reached_end, reached_differs, reached_fault, fault_left, end_does, differs_does, cut_does}
 use Rattle.ct_lun.proofs.unit.Lun.move_on.Goals as goal
 
 pub finish-requires-clause-agrees : goal.finish-requires-clause-agrees
 finish-requires-clause-agrees g c =
     (moved_wrote c.args.self.now c.work-piece.new.self c.args.book.now c.work-piece.new.book c.args.at c.args.blocks c.work-piece.result c.requires.agrees.base c.requires.within c.requires.begun c.work-piece.ensures.goes (omega arith) c.work-piece.ensures.book).agrees
+
+pub finish-requires-in-Differs-clause-agrees : goal.finish-requires-in-Differs-clause-agrees
+finish-requires-in-Differs-clause-agrees g c =
+    (moved_wrote c.args.self.now c.work-piece.new.self c.args.book.now c.work-piece.new.book c.args.at c.args.blocks
+    c.work-piece.result c.requires.agrees.base c.requires.within c.requires.begun c.work-piece.ensures.goes
+    (omega arith) c.work-piece.ensures.book).agrees
 
 pub finish-requires-in-Fault-clause-agrees : goal.finish-requires-in-Fault-clause-agrees
 finish-requires-in-Fault-clause-agrees g c =
@@ -31,6 +38,11 @@ finish-requires-in-Fault-clause-agrees g c =
 pub finish-requires-clause-kind : goal.finish-requires-clause-kind
 finish-requires-clause-kind g c =
     gone_end c.args.self.now c.work-piece.new.self c.args.at c.args.blocks _ c.work-piece.result c.slot.result.now.no c.requires.within c.work-piece.ensures.goes (ap (λ (s : Slot). s.no) c.slot.ensures)
+
+pub finish-requires-in-Differs-clause-kind : goal.finish-requires-in-Differs-clause-kind
+finish-requires-in-Differs-clause-kind g c =
+    gone_end c.args.self.now c.work-piece.new.self c.args.at c.args.blocks _ c.work-piece.result c.slot.result.now.no
+    c.requires.within c.work-piece.ensures.goes (ap (λ (s : Slot). s.no) c.slot.ensures)
 
 pub finish-requires-in-Fault-clause-kind : goal.finish-requires-in-Fault-clause-kind
 finish-requires-in-Fault-clause-kind g c =
@@ -63,6 +75,29 @@ returns-in-End g c =
     c.finish.ensures.book ∙ ap (λ (n : ℕ). closed_book c.work-piece.new.book n reply (event.Ended c.slot.result.now.no)) number ∙ ap (λ (n : ℕ). closed_book c.work-piece.new.book (slot_at old.slots at).no reply (event.Ended n)) named in
     end_does old mid c.finish.new.self c.args.book.now c.work-piece.new.book c.finish.new.book at c.args.blocks piece reply c.requires.agrees c.requires.within c.requires.begun c.requires.room goes c.work-piece.ensures.book c.finish.ensures.leaves refl closed
     (reached_end piece.end (sym c.how_far.ensures ∙ c.in-End.is))
+
+pub returns-in-Differs : goal.returns-in-Differs
+returns-in-Differs g c =
+    let old : Desk = c.args.self.now in
+    let mid : Desk = c.work-piece.new.self in
+    let at : ℕ = c.args.at in
+    let piece : Piece = c.work-piece.result in
+    let own : ℕ = (slot_at old.slots at).no in
+    let out : List ℕ = (command_in c.args.book.now.works own).out in
+    let goes : Goes old mid at c.args.blocks out piece = c.work-piece.ensures.goes in
+    let book : BookState = c.work-piece.new.book in
+    let number : (slot_at mid.slots at).no ≡ own =
+    ap (λ (s : Slot). s.no) (gone_slot old mid at c.args.blocks out piece c.requires.within goes) in
+    let named : c.slot.result.now.no ≡ own = ap (λ (s : Slot). s.no) c.slot.ensures in
+    let reply : Reply = refused_reply c.difference-why.result in
+    let closed : c.finish-in-Differs.new.book ≡ closed_book book own reply (event.Ended own) =
+    c.finish-in-Differs.ensures.book
+    ∙ ap (λ (n : ℕ). closed_book book n reply (event.Ended c.slot.result.now.no)) number
+    ∙ ap (λ (n : ℕ). closed_book book own reply (event.Ended n)) named in
+    differs_does old mid c.finish-in-Differs.new.self c.args.book.now book c.finish-in-Differs.new.book at c.args.blocks
+    piece c.in-Differs.offset reply c.requires.agrees c.requires.within c.requires.begun c.requires.room goes
+    c.work-piece.ensures.book c.finish-in-Differs.ensures.leaves c.difference-why.ensures closed
+    (reached_differs piece.end c.in-Differs.offset (sym c.how_far.ensures ∙ c.in-Differs.is))
 
 pub returns-in-Fault : goal.returns-in-Fault
 returns-in-Fault g c =
