@@ -1,6 +1,5 @@
 ghost use Rattle.std.specs.Prelude.{◌≡◌, ◌≤◌, ◌<◌, ◌++◌, [], length, take, slice_get, IfOk};
 ghost use Rattle.std.specs.List.{cons_option};
-ghost use Rattle.ct_word.specs.Nexuses.{is_same_nexus};
 ghost use Rattle.ct_book.specs.Journals.{numbered};
 ghost use Rattle.ct_book.specs.Histories.{history_of, entries_at, set_by, others_of, cut_by, with_other, with_cut};
 ghost use Rattle.ct_book.specs.Kept.{IsSound, logged_in};
@@ -89,17 +88,11 @@ impl Book {
         ensures { set.new ≡ with_other asker (numbered no self.now.works) set.old }
     {
         if let Some(Work::Cmd(command)) = self.work(no) {
-            if !is_same_nexus(command.nexus, asker) {
+            if !command.nexus.is_same(asker) {
                 set.add(command.nexus);
             }
         }
     }
-}
-
-fn is_same_nexus(a: Nexus, b: Nexus) -> bool
-    ensures { result ≡ is_same_nexus a b }
-{
-    a.port == b.port && a.init == b.init
 }
 
 // Puts an entry last, if there is one. The check makes a push of entries only where it sees a `Why`.

@@ -1,7 +1,7 @@
 -- What a line needs of the lines before it.
 use Rattle.std.specs.Prelude.{◌≡◌, ◌≤◌, ℕ, take, drop, List, [], ◌∷◌, ◌++◌, ◌==◌, nat_lt, Bool, true, false, ◌&&◌, ◌||◌, not, length, sum_by, count_by, Result, Ok, Err}
 use Rattle.std.specs.List.{list_any, list_all, All}
-use Rattle.ct_word.specs.Nexuses.{IsNexus}
+use Rattle.ct_word.specs.Nexuses.{IsNexus, is_same_nexus}
 use Rattle.ct_word.specs.declared.names.LunNo.{LunNo}
 use Rattle.ct_word.specs.declared.names.Nexus.{Nexus}
 use Rattle.ct_cdb.specs.declared.op.Cdb.{Cdb}
@@ -11,9 +11,6 @@ use Rattle.ct_cdb.specs.Asked.{asked_of}
 use Rattle.ct_script.specs.declared.script.Line.{Line}
 use Rattle.ct_script.specs.declared.script.Word.{Word}
 use Rattle.ct_script.specs.declared.script.Word.TheVariants.{Lun, Port, Map, Cmd, Step, Drain, Sync}
-
-abbrev pub is_same_nexus : Nexus → Nexus → Bool
-is_same_nexus a b = (a.port == b.port) && (a.init == b.init)
 
 abbrev pub word_declares_lun : LunNo → Word → Bool
 word_declares_lun lun (Lun number blocks) = number.0 == lun.0

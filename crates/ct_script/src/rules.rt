@@ -2,7 +2,7 @@
 
 ghost use Rattle.std.specs.Prelude.{◌≡◌, ◌<◌, ◌^◌};
 ghost use Rattle.std.specs.List.{list_any};
-ghost use Rattle.ct_script.specs.Rules.{is_same_nexus, declares_lun, declares_port, maps, is_command, acts, is_misnamed_by, data_bytes, line_asked};
+ghost use Rattle.ct_script.specs.Rules.{declares_lun, declares_port, maps, is_command, acts, is_misnamed_by, data_bytes, line_asked};
 
 use crate::script::{Line, Word};
 use ct_cdb::{asked, decode};
@@ -68,7 +68,7 @@ fn maps(line: &Line, nexus: Nexus, x: u8) -> bool
     ensures { result ≡ maps nexus x line.now }
 {
     match &line.word {
-        Word::Map { n, x: number, .. } => is_same_nexus(*n, nexus) && *number == x,
+        Word::Map { n, x: number, .. } => n.is_same(nexus) && *number == x,
         _ => false,
     }
 }
@@ -91,12 +91,6 @@ pub fn acts(line: &Line) -> bool
         Word::Lun { .. } | Word::Port { .. } | Word::Map { .. } => false,
         Word::Cmd { .. } | Word::Step { .. } | Word::Drain { .. } | Word::Sync => true,
     }
-}
-
-fn is_same_nexus(a: Nexus, b: Nexus) -> bool
-    ensures { result ≡ is_same_nexus a b }
-{
-    a.port == b.port && a.init == b.init
 }
 
 /// How much DATA a line has, in bytes.

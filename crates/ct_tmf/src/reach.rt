@@ -1,5 +1,4 @@
 ghost use Rattle.std.specs.Prelude.{◌≡◌};
-ghost use Rattle.ct_word.specs.Nexuses.{is_same_nexus};
 ghost use Rattle.ct_tmf.specs.Reaches.{hits, seeks};
 
 use crate::function::{Ask, Function};
@@ -11,8 +10,8 @@ pub fn hits(ask: &Ask, nexus: Nexus, tag: Tag) -> bool
     ensures { result ≡ hits ask.now nexus tag }
 {
     match ask.function {
-        Function::AbortTask(asked) => is_same_nexus(ask.nexus, nexus) && asked.0 == tag.0,
-        Function::AbortTaskSet | Function::NexusReset => is_same_nexus(ask.nexus, nexus),
+        Function::AbortTask(asked) => ask.nexus.is_same(nexus) && asked.0 == tag.0,
+        Function::AbortTaskSet | Function::NexusReset => ask.nexus.is_same(nexus),
         Function::ClearTaskSet | Function::LunReset => true,
         Function::QueryTask(_) | Function::QueryTaskSet | Function::ClearAca => false,
     }
@@ -24,14 +23,8 @@ pub fn seeks(ask: &Ask, nexus: Nexus, tag: Tag) -> bool
     ensures { result ≡ seeks ask.now nexus tag }
 {
     match ask.function {
-        Function::QueryTask(asked) => is_same_nexus(ask.nexus, nexus) && asked.0 == tag.0,
-        Function::QueryTaskSet => is_same_nexus(ask.nexus, nexus),
+        Function::QueryTask(asked) => ask.nexus.is_same(nexus) && asked.0 == tag.0,
+        Function::QueryTaskSet => ask.nexus.is_same(nexus),
         _ => false,
     }
-}
-
-fn is_same_nexus(a: Nexus, b: Nexus) -> bool
-    ensures { result ≡ is_same_nexus a b }
-{
-    a.port == b.port && a.init == b.init
 }
