@@ -4,7 +4,7 @@ ghost use Rattle.ct_book.specs.Journals.{is_command, reply_of};
 ghost use Rattle.ct_book.specs.Kept.{IsCommandNo, IsFunctionNo, IsWorkNo};
 
 use super::*;
-use ct_cdb::Attr2;
+use ct_cdb::{Attr2, CdbBytes};
 use ct_sense::{Reply, Status};
 use ct_tmf::{Ask, Function, Outcome};
 use ct_word::{Bytes, CmdNo, Nexus, NexusSet, Node, Room, Tag};
@@ -36,7 +36,7 @@ fn command(alloc: Global, nexus: Nexus, cdb: &[u8]) -> Result<Work<Cmd>, Fail>
         1,
         Tag(3),
         Attr2::Simple,
-        cdb,
+        CdbBytes::new(Bytes::from_vec(cdb.to_vec(alloc)?)),
         Bytes::new(alloc),
     )?;
     Ok(Work::Cmd(cmd))

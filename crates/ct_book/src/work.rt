@@ -1,15 +1,13 @@
 ghost use Rattle.std.specs.Prelude.{◌≡◌, ◌≤◌, [], IfOk};
 ghost use Rattle.ct_word.specs.Nexuses.{IsNexus};
-ghost use Rattle.ct_book.specs.Works.{room_for, data_room};
+ghost use Rattle.ct_cdb.specs.Profiles.{Fits};
+ghost use Rattle.ct_book.specs.Works.{room_for, profile_in};
 
-use ct_cdb::{Attr2, Op, asked, decode};
+use ct_cdb::{Attr2, CdbBytes, Profile, rows_fit};
 use ct_tmf::Ask;
 use ct_word::{Bytes, Nexus, NoMemory, Reserve, Tag};
 use std::alloc::Global;
 use std::marker::Model;
-
-/// Bytes of a block.
-const BLOCK_SIZE: usize = 512;
 
 /// What an initiator asks: a command with its data-out (SAM-5, 5.1), and the line of the script that says so.
 #[derive(Debug, Drop)]
@@ -20,7 +18,8 @@ pub struct Command {
     pub visible: u16,
     pub tag: Tag,
     pub attr: Attr2,
-    pub cdb: Bytes,
+    /// Decoded.
+    pub cdb: CdbBytes,
     pub out: Bytes,
 }
 
@@ -61,7 +60,7 @@ impl Cmd {
         visible: u16,
         tag: Tag,
         attr: Attr2,
-        cdb: &[u8],
+        cdb: CdbBytes,
         out: Bytes,
     ) -> Result<Cmd, NoMemory>
         requires { IsNexus nexus }
@@ -71,12 +70,11 @@ impl Cmd {
           visible = visible;
           tag = tag;
           attr = attr;
-          cdb = cdb.now;
+          cdb = cdb;
           out = out;
         }) }
     {
-        let body = Reserve::open(alloc, room_for(cdb))?;
-        let cdb = Bytes::from_vec(cdb.to_vec(alloc)?);
+        let body = Reserve::open(alloc, room_for(&cdb))?;
         Ok(Cmd {
             command: Command {
                 line,
@@ -107,22 +105,22 @@ impl Cmd {
     }
 }
 
-// The most bytes of data-in that a CDB can ask for.
-#[tactic(auto, unfolding(crate::specs::Works::room_for))]
-fn room_for(cdb: &[u8]) -> usize
-    ensures { result ≡ room_for cdb.now }
-{
-    match decode(cdb) {
-        Ok(cdb) => data_room(&cdb.op),
-        Err(_) => 0,
+impl Command {
+    /// What the command means, on a disk of so many blocks.
+    #[tactic(auto, unfolding(crate::specs::Works::profile_in))]
+    pub fn profile(&self, blocks: u32) -> Profile
+        ensures row { result ≡ profile_in blocks self.now }
+        ensures fits { Fits result }
+    {
+        rows_fit();
+        Profile::by(self.cdb.decoded(), self.out.as_slice(), blocks)
     }
 }
 
-fn data_room(op: &Op) -> usize
-    ensures { result ≡ data_room op.now }
+// The most bytes of data-in that a CDB can ask for.
+#[tactic(auto, unfolding(crate::specs::Works::room_for))]
+fn room_for(cdb: &CdbBytes) -> usize
+    ensures { result ≡ room_for cdb.now }
 {
-    match *op {
-        Op::Read10 { .. } => BLOCK_SIZE * asked(op) as usize,
-        Op::Write10 { .. } => 0,
-    }
+    Profile::by(cdb.decoded(), &[], 0).data_in as usize
 }

@@ -1,12 +1,13 @@
 //! Laws of the definitions of this crate, each the contract of a function with an empty body.
 
-ghost use Rattle.std.specs.Prelude.{◌≡◌, ◌≢◌, ◌↔◌, ℕ, List, [], length};
+ghost use Rattle.std.specs.Prelude.{◌≡◌, ◌≢◌, ◌↔◌, ℕ, List, [], length, Result};
 ghost use Rattle.ct_cdb.specs.declared.op.Cdb.{Cdb};
+ghost use Rattle.ct_cdb.specs.declared.op.CdbFault.{CdbFault as AnyFault};
 ghost use Rattle.ct_cdb.specs.Forms.{cdb_of, row_of, accepted_cdb};
 ghost use Rattle.ct_cdb.specs.Table.{HasRow, IsAccepted, IsLowest, is_refused};
 ghost use Rattle.ct_cdb.specs.Encoding.{IsEncodable, bytes_of_cdb};
 ghost use Rattle.ct_cdb.specs.declared.op.Op.{Op};
-ghost use Rattle.ct_cdb.specs.Profiles.{profile_of, Fits};
+ghost use Rattle.ct_cdb.specs.Profiles.{profile_of, profile_by, room_of, Fits};
 
 use crate::op::CdbFault;
 
@@ -31,7 +32,9 @@ pub fn encoded_reads_back()
     ensures { (cdb : Cdb) → IsEncodable cdb → cdb_of (bytes_of_cdb cdb) ≡ Ok cdb }
 {}
 
-/// The columns of each command's row fit one another.
+/// The columns of each command's row fit one another, and its room for data-in depends on the CDB alone.
 pub fn rows_fit()
-    ensures { (op : Op) (out : List ℕ) (blocks : ℕ) → Fits (profile_of op out blocks) }
+    ensures fits { (op : Op) (out : List ℕ) (blocks : ℕ) → Fits (profile_of op out blocks) }
+    ensures undecoded { (decoded : Result Cdb AnyFault) (out : List ℕ) (blocks : ℕ) → Fits (profile_by decoded out blocks) }
+    ensures room { (decoded : Result Cdb AnyFault) (out : List ℕ) (blocks : ℕ) → (profile_by decoded out blocks).data_in ≡ room_of decoded }
 {}

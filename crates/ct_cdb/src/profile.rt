@@ -3,7 +3,8 @@
 mod blocks;
 
 ghost use Rattle.std.specs.Prelude.{◌≡◌};
-ghost use Rattle.ct_cdb.specs.Profiles.{profile_of, profile_by, undecoded, operations, index_of, asked_of, is_performed};
+ghost use Rattle.std.specs.List.{list_any};
+ghost use Rattle.ct_cdb.specs.Profiles.{reads, writes, profile_of, profile_by, undecoded, operations, index_of, asked_of, is_performed};
 
 use crate::few::Few;
 use crate::op::{Cdb, CdbFault, Op, SerIdx};
@@ -26,6 +27,28 @@ pub enum Phase {
     Zero,
     /// They are compared with the blocks of the data-out.
     Compare,
+}
+
+impl Phase {
+    /// It reads the blocks.
+    pub fn reads(self) -> bool
+        ensures { result ≡ reads self }
+    {
+        match self {
+            Phase::Get | Phase::Look | Phase::Compare => true,
+            Phase::Put | Phase::PutSecondHalf | Phase::PutSame | Phase::Zero => false,
+        }
+    }
+
+    /// It writes the blocks.
+    pub fn writes(self) -> bool
+        ensures { result ≡ writes self }
+    {
+        match self {
+            Phase::Put | Phase::PutSecondHalf | Phase::PutSame | Phase::Zero => true,
+            Phase::Get | Phase::Look | Phase::Compare => false,
+        }
+    }
 }
 
 /// The class of a command, by which a persistent reservation lets it through (SPC-4, PERSISTENT RESERVE OUT).
@@ -84,6 +107,28 @@ impl Profile {
         ensures { result ≡ operations self.now }
     {
         self.phases.len() as u64 * self.ranges.total()
+    }
+
+    /// A phase reads blocks.
+    pub fn reads(&self) -> bool
+        ensures { result ≡ list_any reads self.now.phases }
+    {
+        match self.phases.items() {
+            (None, _) => false,
+            (Some(first), None) => first.reads(),
+            (Some(first), Some(second)) => first.reads() | second.reads(),
+        }
+    }
+
+    /// A phase writes blocks.
+    pub fn writes(&self) -> bool
+        ensures { result ≡ list_any writes self.now.phases }
+    {
+        match self.phases.items() {
+            (None, _) => false,
+            (Some(first), None) => first.writes(),
+            (Some(first), Some(second)) => first.writes() | second.writes(),
+        }
     }
 
     /// Neither so many bytes of data-out nor a disk of so many blocks refuses it.

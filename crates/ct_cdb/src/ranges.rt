@@ -1,5 +1,6 @@
 ghost use Rattle.std.specs.Prelude.{◌≡◌, ◌<◌, ◌≤◌, ◌^◌, [], ◌∷◌, length, slice_get, true};
 ghost use Rattle.std.specs.List.{list_all};
+ghost use Rattle.std.specs.Option.{option_to_list};
 ghost use Rattle.ct_cdb.specs.Ranges.{total, numbers_of, is_inside};
 
 use ct_word::limit::{MOST_BLOCKS, MOST_RANGES};
@@ -43,11 +44,11 @@ impl Ranges {
         }
     }
 
-    /// The ranges, in order.
-    pub fn as_slice(&self) -> &[LbaRange]
-        ensures ranges { result.now ≡ self.now }
+    /// The only range, if there is one.
+    pub fn only(&self) -> Option<LbaRange>
+        ensures { option_to_list result ≡ self.now }
     {
-        self.only.as_slice()
+        self.only
     }
 
     /// How many blocks there are.

@@ -1,47 +1,77 @@
--- A command that nothing refuses and that has no block operation leaves the disk, and returns no data.
-use Rattle.std.proofs.Common.{◌≡◌, ℕ, Bool, true, false, not, ◌&&◌, nat_lt, if◌then◌else◌, List, [], length, Option, None, Some, Result, Ok, Err, refl, ◌∙◌, ap, subst}
+-- What a command does at once that nothing refuses is what its plan does.
+use Rattle.std.proofs.Common.{◌≡◌, ℕ, Bool, true, false, not, ◌&&◌, nat_lt, cond, if◌then◌else◌, List, [], length, Option, None, Some, Result, Ok, Err, refl, sym, ◌∙◌, ap, subst}
+use Rattle.std.specs.List.{list_all}
+use Rattle.std.proofs.lemmas.Bool.{and_parts}
 use Rattle.ct_word.specs.Nexuses.{no_nexuses}
 use Rattle.ct_cdb.specs.declared.op.Cdb.{Cdb}
 use Rattle.ct_cdb.specs.declared.op.CdbFault.{CdbFault}
+use Rattle.ct_cdb.specs.declared.profile.Profile.{Profile}
 use Rattle.ct_cdb.specs.Forms.{cdb_of}
-use Rattle.ct_cdb.specs.Performed.{data_length, is_inside, is_performed}
+use Rattle.ct_cdb.specs.Ranges.{is_inside}
+use Rattle.ct_cdb.specs.Profiles.{is_performed}
 use Rattle.ct_sense.specs.declared.reply.Reply.{Reply}
+use Rattle.ct_sense.specs.declared.code.TheConstants.{PARAMETER_LIST_LENGTH_ERROR, LBA_OUT_OF_RANGE}
 use Rattle.ct_plan.specs.declared.operation.BlockOp.{BlockOp}
-use Rattle.ct_plan.specs.Plans.{plan_of}
-use Rattle.ct_plan.specs.Cells.{Progress, performed}
-use Rattle.ct_plan.specs.Effects.{written_disk, data_in}
-use Rattle.ct_plan.proofs.Cuts.{whole_progress}
+use Rattle.ct_plan.specs.Plans.{planned, plan_of}
+use Rattle.ct_plan.specs.Cells.{Cells, Progress, performed}
+use Rattle.ct_plan.specs.Effects.{Effect, effect}
+use Rattle.ct_plan.proofs.Cuts.{whole_phases}
 use Rattle.ct_book.specs.declared.work.Command.{Command}
+use Rattle.ct_book.specs.Works.{profile_in}
 use Rattle.ct_exec.specs.Controls.{ControlState, Disk}
-use Rattle.ct_exec.specs.Executions.{good, refusal_of, refusal_by, illegal_request, execute, executed, effect_of, plan_in, plan_by}
-
-disk_with : ControlState → List (List ℕ) → Disk
-disk_with control blocks = record { control = control; blocks = blocks }
+use Rattle.ct_exec.specs.Executions.{Execution, good, check_condition, row_refusal, refusal_of, refusal_by, reply_moved, execute, executed, effect_of, plan_in}
 
 -- nothing refuses what is performed
-unrefused_performed : (control : ControlState) (blocks out : ℕ) (cdb : Cdb) → refusal_by control blocks out (Ok cdb) ≡ None → is_performed out blocks cdb.op ≡ true
-unrefused_performed control blocks out cdb h = go (nat_lt out (data_length cdb.op)) (is_inside blocks cdb.op) h
+unrefused_performed : (control : ControlState) (blocks out : ℕ) (decoded : Result Cdb CdbFault) (profile : Profile) → refusal_by control blocks out decoded profile ≡ None → is_performed out blocks profile ≡ true
+unrefused_performed control blocks out (Err fault) profile h = absurd (cc)
+unrefused_performed control blocks out (Ok cdb) profile h = go (nat_lt out profile.data_out) (list_all (is_inside blocks) profile.ranges) h
   where
-    go : (short inside : Bool) → (if short then Some (illegal_request control 0x1a) else if not inside then Some (illegal_request control 0x21) else None) ≡ None → (not short && inside) ≡ true
-    go true inside e = cc
+    go : (short inside : Bool)
+        → (if short then Some (check_condition control PARAMETER_LIST_LENGTH_ERROR None) else if not inside then Some (check_condition control LBA_OUT_OF_RANGE None) else None) ≡ None
+        → (not short && inside) ≡ true
+    go true inside e = absurd (cc)
     go false true e = refl
-    go false false e = cc
+    go false false e = absurd (cc)
 
-done_by : (control : ControlState) (command : Command) (blocks : List (List ℕ)) (decoded : Result Cdb CdbFault) → refusal_by control (length blocks) (length command.out) decoded ≡ None → plan_by (length blocks) (length command.out) decoded ≡ []
-    → effect_of (record { control = control; blocks = blocks }) command decoded ≡ record { disk = record { control = control; blocks = blocks }; reply = good []; cleared = no_nexuses }
-done_by control command blocks (Err fault) unrefused unplanned = cc
-done_by control command blocks (Ok cdb) unrefused unplanned =
-    let whole = whole_progress cdb.op command.out blocks (unrefused_performed control (length blocks) (length command.out) cdb unrefused) in
-    let none : record { made = 0; difference = None; cells = record { blocks = blocks; got = [] } } ≡ record { made = length (plan_of (length command.out) (length blocks) cdb.op); difference = None; cells = record { blocks = written_disk cdb.op command.out blocks; got = data_in cdb.op blocks } } =
-    subst (λ (operations : List BlockOp). performed command.out operations (record { blocks = blocks; got = [] }) ≡ record { made = length (plan_of (length command.out) (length blocks) cdb.op); difference = None; cells = record { blocks = written_disk cdb.op command.out blocks; got = data_in cdb.op blocks } }) unplanned whole in
-    let same : blocks ≡ written_disk cdb.op command.out blocks = ap (λ (p : Progress). p.cells.blocks) none in
-    let nothing : [] ≡ data_in cdb.op blocks = ap (λ (p : Progress). p.cells.got) none in
-    rw (← same, ← nothing) refl
+-- a command before its first operation
+abbrev start : List (List ℕ) → Cells
+start blocks = record { blocks = blocks; got = [] }
 
+-- the disk and the reply of operations that came so far
+abbrev pub operated_by : Disk → Progress → Execution
+operated_by disk progress = record {
+  disk = record { control = disk.control; blocks = progress.cells.blocks };
+  reply = reply_moved disk.control progress.difference progress.cells.got;
+  cleared = no_nexuses;
+}
+
+pub whole_execution : (disk : Disk) (c : Command) → refusal_of disk.control (length disk.blocks) c ≡ None
+    → execute disk c ≡ operated_by disk (performed c.out (plan_in (length disk.blocks) c) (start disk.blocks))
+unfolding execute refusal_of plan_in plan_of
+whole_execution disk c unrefused =
+    let profile : Profile = profile_in (length disk.blocks) c in
+    let yes : is_performed (length c.out) (length disk.blocks) profile ≡ true = unrefused_performed disk.control (length disk.blocks) (length c.out) (cdb_of c.cdb) profile unrefused in
+    let inside = and_parts (not (nat_lt (length c.out) profile.data_out)) (list_all (is_inside (length disk.blocks)) profile.ranges) yes in
+    let ends = whole_phases c.out profile.ranges profile.phases (start disk.blocks) inside.1 in
+    let planned_so : planned profile.phases profile.ranges ≡ cond (is_performed (length c.out) (length disk.blocks) profile) (planned profile.phases profile.ranges) [] = ap (λ (b : Bool). cond b (planned profile.phases profile.ranges) []) (sym yes) in
+    ap (λ (refusal : Option Reply). executed refusal disk c) unrefused
+    ∙ ap (λ (d : Option ℕ). record {
+      disk = record { control = disk.control; blocks = (effect c.out profile.ranges profile.phases (start disk.blocks)).cells.blocks };
+      reply = reply_moved disk.control d (effect c.out profile.ranges profile.phases (start disk.blocks)).cells.got;
+      cleared = no_nexuses;
+    }) (sym ends.difference)
+    ∙ ap (λ (cells : Cells). record {
+      disk = record { control = disk.control; blocks = cells.blocks };
+      reply = reply_moved disk.control (performed c.out (planned profile.phases profile.ranges) (start disk.blocks)).difference cells.got;
+      cleared = no_nexuses;
+    }) (sym ends.cells)
+    ∙ ap (λ (operations : List BlockOp). operated_by disk (performed c.out operations (start disk.blocks))) planned_so
+
+-- a command that nothing refuses and that has no block operation leaves the disk, and returns no data
 pub done_at_once : (control : ControlState) (command : Command) (count : ℕ) (blocks : List (List ℕ)) → refusal_of control count command ≡ None → plan_in count command ≡ [] → length blocks ≡ count
     → execute (record { control = control; blocks = blocks }) command ≡ record { disk = record { control = control; blocks = blocks }; reply = good []; cleared = no_nexuses }
-unfolding execute refusal_of plan_in
 done_at_once control command count blocks unrefused unplanned size =
-    let refused : refusal_by control (length blocks) (length command.out) (cdb_of command.cdb) ≡ None = rw size unrefused in
-    let planned : plan_by (length blocks) (length command.out) (cdb_of command.cdb) ≡ [] = rw size unplanned in
-    ap (λ (refusal : Option Reply). executed refusal (record { control = control; blocks = blocks }) command) refused ∙ done_by control command blocks (cdb_of command.cdb) refused planned
+    let disk : Disk = record { control = control; blocks = blocks } in
+    let refused : refusal_of control (length blocks) command ≡ None = subst (λ (n : ℕ). refusal_of control n command ≡ None) (sym size) unrefused in
+    let planned_is : plan_in (length blocks) command ≡ [] = subst (λ (n : ℕ). plan_in n command ≡ []) (sym size) unplanned in
+    whole_execution disk command refused ∙ ap (λ (operations : List BlockOp). operated_by disk (performed command.out operations (start blocks))) planned_is

@@ -1,18 +1,24 @@
--- The whole execution of one command, at once (SBC-3, READ (10) and WRITE (10); SPC-4, 4.5).
+-- The whole execution of one command, at once (SBC-3, clause 5; SPC-4, 4.5).
 use Rattle.std.specs.Prelude.{ℕ, List, [], length, Bool, false, not, nat_lt, if◌then◌else◌, Option, None, Some, Result, Ok, Err}
+use Rattle.std.specs.List.{list_all}
 use Rattle.ct_word.specs.Nexuses.{no_nexuses}
 use Rattle.ct_cdb.specs.declared.op.Cdb.{Cdb}
 use Rattle.ct_cdb.specs.declared.op.CdbFault.{CdbFault}
 use Rattle.ct_cdb.specs.declared.op.CdbFault.TheVariants.{Empty, BadOperation, BadLength, BadField}
+use Rattle.ct_cdb.specs.declared.profile.Profile.{Profile}
 use Rattle.ct_cdb.specs.Forms.{cdb_of}
-use Rattle.ct_cdb.specs.Performed.{data_length, is_inside}
+use Rattle.ct_cdb.specs.Ranges.{is_inside}
 use Rattle.ct_sense.specs.declared.reply.Reply.{Reply}
 use Rattle.ct_sense.specs.declared.reply.Status.TheVariants as status
+use Rattle.ct_sense.specs.declared.sense.SenseCode.{SenseCode}
+use Rattle.ct_sense.specs.declared.code.TheConstants.{INVALID_COMMAND_OPERATION_CODE, INVALID_FIELD_IN_CDB, PARAMETER_LIST_LENGTH_ERROR, LBA_OUT_OF_RANGE, MISCOMPARE_DURING_VERIFY, UNRECOVERED_READ_ERROR, WRITE_ERROR}
+use Rattle.ct_sense.specs.Codes.{sense_of}
 use Rattle.ct_plan.specs.declared.operation.BlockOp.{BlockOp}
 use Rattle.ct_plan.specs.declared.operation.BlockOp.TheVariants as operations
 use Rattle.ct_plan.specs.Plans.{plan_of, need_of}
-use Rattle.ct_plan.specs.Effects.{written_disk, data_in}
+use Rattle.ct_plan.specs.Effects.{effect}
 use Rattle.ct_book.specs.declared.work.Command.{Command}
+use Rattle.ct_book.specs.Works.{profile_in}
 use Rattle.ct_exec.specs.Controls.{ControlState, Disk, has_descriptors}
 
 -- GOOD with these data
@@ -20,37 +26,42 @@ abbrev pub good : List ℕ → Reply
 good got = record { status = status.Good; sense = None; descriptor = false; body = got }
 
 -- CHECK CONDITION with these sense data, in the form that the control asks for
-abbrev pub check_condition : ControlState → ℕ → ℕ → ℕ → Option ℕ → Reply
-check_condition control key asc ascq information = record {
+abbrev pub check_condition : ControlState → SenseCode → Option ℕ → Reply
+check_condition control code information = record {
   status = status.CheckCondition;
-  sense = Some (record { key = key; asc = asc; ascq = ascq; info = information });
+  sense = Some (sense_of code information);
   descriptor = has_descriptors control;
   body = [];
 }
 
--- ILLEGAL REQUEST, with this additional sense code
-abbrev pub illegal_request : ControlState → ℕ → Reply
-illegal_request control asc = check_condition control 5 asc 0 None
+-- the reply of a command that made its block operations: its data, or MISCOMPARE with the offset of the
+-- first byte that differs
+abbrev pub reply_moved : ControlState → Option ℕ → List ℕ → Reply
+reply_moved control None got = good got
+reply_moved control (Some offset) got = check_condition control MISCOMPARE_DURING_VERIFY (Some offset)
 
--- the refusal of bytes that are no CDB: INVALID COMMAND OPERATION CODE or INVALID FIELD IN CDB
+-- the refusal of bytes that are no CDB
 abbrev pub undecoded : ControlState → CdbFault → Reply
-undecoded control Empty = illegal_request control 0x20
-undecoded control BadOperation = illegal_request control 0x20
-undecoded control (BadLength want got) = illegal_request control 0x24
-undecoded control (BadField byte) = illegal_request control 0x24
+undecoded control Empty = check_condition control INVALID_COMMAND_OPERATION_CODE None
+undecoded control BadOperation = check_condition control INVALID_COMMAND_OPERATION_CODE None
+undecoded control (BadLength want got) = check_condition control INVALID_FIELD_IN_CDB None
+undecoded control (BadField byte) = check_condition control INVALID_FIELD_IN_CDB None
 
--- the first of the checks that refuses: the CDB; data-out that is too short, PARAMETER LIST LENGTH ERROR; a
--- range outside the disk, LOGICAL BLOCK ADDRESS OUT OF RANGE
-abbrev pub refusal_by : ControlState → ℕ → ℕ → Result Cdb CdbFault → Option Reply
-refusal_by control blocks out (Err fault) = Some (undecoded control fault)
-refusal_by control blocks out (Ok cdb) =
-    if nat_lt out (data_length cdb.op) then Some (illegal_request control 0x1a)
-    else if not (is_inside blocks cdb.op) then Some (illegal_request control 0x21)
+-- the first of the checks of a row that refuses: data-out that is too short; a range outside the disk
+abbrev pub row_refusal : ControlState → ℕ → ℕ → Profile → Option Reply
+row_refusal control blocks out profile =
+    if nat_lt out profile.data_out then Some (check_condition control PARAMETER_LIST_LENGTH_ERROR None)
+    else if not (list_all (is_inside blocks) profile.ranges) then Some (check_condition control LBA_OUT_OF_RANGE None)
     else None
+
+-- the first of the checks that refuses: the CDB, and then those of its row
+abbrev pub refusal_by : ControlState → ℕ → ℕ → Result Cdb CdbFault → Profile → Option Reply
+refusal_by control blocks out (Err fault) profile = Some (undecoded control fault)
+refusal_by control blocks out (Ok cdb) profile = row_refusal control blocks out profile
 
 -- the reply that refuses a command when it begins, on a disk of so many blocks, if there is one
 unfoldable pub refusal_of : ControlState → ℕ → Command → Option Reply
-refusal_of control blocks command = refusal_by control blocks (length command.out) (cdb_of command.cdb)
+refusal_of control blocks command = refusal_by control blocks (length command.out) (cdb_of command.cdb) (profile_in blocks command)
 
 -- the control after a refusal
 unfoldable pub refused_control : ControlState → Command → ControlState
@@ -63,14 +74,16 @@ pub record Execution : Type 0 where
   pub reply : Reply
   pub cleared : List Bool
 
--- what a command does that nothing refuses
-abbrev pub effect_of : Disk → Command → Result Cdb CdbFault → Execution
-effect_of disk command (Err fault) = record { disk = disk; reply = good []; cleared = no_nexuses }
-effect_of disk command (Ok cdb) = record {
-  disk = record disk { blocks = written_disk cdb.op command.out disk.blocks };
-  reply = good (data_in cdb.op disk.blocks);
-  cleared = no_nexuses;
-}
+-- what a command does that nothing refuses: what its phases do at once
+abbrev pub effect_of : Disk → Command → Execution
+effect_of disk command =
+    let profile = profile_in (length disk.blocks) command in
+    let done = effect command.out profile.ranges profile.phases (record { blocks = disk.blocks; got = [] }) in
+    record {
+      disk = record disk { blocks = done.cells.blocks };
+      reply = reply_moved disk.control done.difference done.cells.got;
+      cleared = no_nexuses;
+    }
 
 abbrev pub executed : Option Reply → Disk → Command → Execution
 executed (Some reply) disk command = record {
@@ -78,7 +91,7 @@ executed (Some reply) disk command = record {
   reply = reply;
   cleared = no_nexuses;
 }
-executed None disk command = effect_of disk command (cdb_of command.cdb)
+executed None disk command = effect_of disk command
 
 -- a whole command: refused, or else done
 unfoldable pub execute : Disk → Command → Execution
@@ -86,30 +99,16 @@ execute disk command = executed (refusal_of disk.control (length disk.blocks) co
 
 -- the block operations of a command with its data-out, on a disk of so many blocks, and the blocks of the
 -- pool that it needs; one that doesn't decode has none
-abbrev pub plan_by : ℕ → ℕ → Result Cdb CdbFault → List BlockOp
-plan_by blocks out (Err fault) = []
-plan_by blocks out (Ok cdb) = plan_of out blocks cdb.op
-
 unfoldable pub plan_in : ℕ → Command → List BlockOp
-plan_in blocks command = plan_by blocks (length command.out) (cdb_of command.cdb)
-
-abbrev pub need_by : ℕ → ℕ → Result Cdb CdbFault → ℕ
-need_by blocks out (Err fault) = 0
-need_by blocks out (Ok cdb) = need_of out blocks cdb.op
+plan_in blocks command = plan_of (length command.out) blocks (profile_in blocks command)
 
 unfoldable pub need_in : ℕ → Command → ℕ
-need_in blocks command = need_by blocks (length command.out) (cdb_of command.cdb)
-
--- the reply of a command that made its block operations: its data, or MISCOMPARE DURING VERIFY OPERATION with
--- the offset of the first byte that differs
-abbrev pub reply_moved : ControlState → Option ℕ → List ℕ → Reply
-reply_moved control None got = good got
-reply_moved control (Some offset) got = check_condition control 0xe 0x1d 0 (Some offset)
+need_in blocks command = need_of (length command.out) blocks (profile_in blocks command)
 
 -- the reply where the medium failed an operation: UNRECOVERED READ ERROR or WRITE ERROR, with the LBA
 abbrev pub reply_failed : ControlState → BlockOp → Reply
-reply_failed control (operations.Get lba) = check_condition control 3 0x11 0 (Some lba)
-reply_failed control (operations.Look lba) = check_condition control 3 0x11 0 (Some lba)
-reply_failed control (operations.Put lba place) = check_condition control 3 0x0c 0 (Some lba)
-reply_failed control (operations.Zero lba) = check_condition control 3 0x0c 0 (Some lba)
-reply_failed control (operations.Compare lba place) = check_condition control 3 0x11 0 (Some lba)
+reply_failed control (operations.Get lba) = check_condition control UNRECOVERED_READ_ERROR (Some lba)
+reply_failed control (operations.Look lba) = check_condition control UNRECOVERED_READ_ERROR (Some lba)
+reply_failed control (operations.Put lba place) = check_condition control WRITE_ERROR (Some lba)
+reply_failed control (operations.Zero lba) = check_condition control WRITE_ERROR (Some lba)
+reply_failed control (operations.Compare lba place) = check_condition control UNRECOVERED_READ_ERROR (Some lba)

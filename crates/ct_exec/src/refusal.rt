@@ -4,7 +4,7 @@ ghost use Rattle.ct_exec.specs.Refusals.{refused_reply};
 
 use crate::control::Control;
 use ct_plan::BlockOp;
-use ct_sense::{Reply, Sense, Status, key};
+use ct_sense::{Reply, Sense, SenseCode, Status, code};
 use ct_word::{Bytes, Reserve};
 
 /// A reply without data: why a command is refused, or failed.
@@ -42,17 +42,12 @@ impl Refusal {
 }
 
 /// CHECK CONDITION with these sense data.
-pub fn check_condition(c: &Control, key: u8, asc: u8, ascq: u8, info: Option<u32>) -> Refusal
-    ensures { refused_reply result ≡ check_condition c.now key asc ascq info }
+pub fn check_condition(c: &Control, code: SenseCode, info: Option<u32>) -> Refusal
+    ensures { refused_reply result ≡ check_condition c.now code info }
 {
     Refusal {
         status: Status::CheckCondition,
-        sense: Some(Sense {
-            key,
-            asc,
-            ascq,
-            info,
-        }),
+        sense: Some(code.sense(info)),
         descriptor: c.has_descriptors(),
     }
 }
@@ -75,10 +70,10 @@ pub fn failed(c: &Control, operation: BlockOp) -> Refusal
 {
     match operation {
         BlockOp::Get(lba) | BlockOp::Look(lba) | BlockOp::Compare(lba, _) => {
-            check_condition(c, key::MEDIUM_ERROR, 0x11, 0, Some(lba))
+            check_condition(c, code::UNRECOVERED_READ_ERROR, Some(lba))
         }
         BlockOp::Put(lba, _) | BlockOp::Zero(lba) => {
-            check_condition(c, key::MEDIUM_ERROR, 0x0c, 0, Some(lba))
+            check_condition(c, code::WRITE_ERROR, Some(lba))
         }
     }
 }
@@ -87,5 +82,5 @@ pub fn failed(c: &Control, operation: BlockOp) -> Refusal
 pub fn miscompared(c: &Control, offset: u32) -> Refusal
     ensures { refused_reply result ≡ reply_moved c.now (Some offset) [] }
 {
-    check_condition(c, key::MISCOMPARE, 0x1d, 0, Some(offset))
+    check_condition(c, code::MISCOMPARE_DURING_VERIFY, Some(offset))
 }

@@ -3,7 +3,7 @@ ghost use Rattle.ct_book.specs.Works.{room_for};
 
 use super::*;
 use ct_book::{Cmd, Command};
-use ct_cdb::{Attr2, Op, decode};
+use ct_cdb::{Attr2, CdbBytes, Profile};
 use ct_plan::BlockOp;
 use ct_sense::{Sense, Status};
 use ct_word::{Bytes, LunNo, Nexus, NexusSet, Reserve, Tag};
@@ -21,6 +21,7 @@ fn command(alloc: Global, cdb: &[u8], out: &[u8]) -> Result<Cmd, Fail>
 {
     let nexus = Nexus { port: 1, init: 2 };
     let out = Bytes::from_vec(out.to_vec(alloc)?);
+    let cdb = CdbBytes::new(Bytes::from_vec(cdb.to_vec(alloc)?));
     Ok(Cmd::new(alloc, 7, nexus, 1, Tag(3), Attr2::Simple, cdb, out)?)
 }
 
@@ -86,13 +87,7 @@ fn tells_why(rt: HostRuntime) -> Result<(), Fail> {
 fn room_for(command: &Command) -> usize
     ensures { result ≡ room_for command.now.cdb }
 {
-    match decode(command.cdb.as_slice()) {
-        Ok(cdb) => match cdb.op {
-            Op::Read10 { count, .. } => 512 * usize::from(count),
-            Op::Write10 { .. } => 0,
-        },
-        Err(_) => 0,
-    }
+    Profile::by(command.cdb.decoded(), &[], 0).data_in as usize
 }
 
 // Executes a command on a disk of 3 blocks, where it is done at once.

@@ -6,7 +6,8 @@ use Rattle.std.proofs.lemmas.Bool.Decides.{nat_tests}
 use Rattle.std.proofs.lemmas.List.{append-nil}
 use Rattle.std.proofs.lemmas.List.Folds.{list_any_at, list_any-append}
 use Rattle.ct_matrix.specs.declared.blocks.Extent.{Extent}
-use Rattle.ct_matrix.specs.Extents.{Print, numbers_from, blocks_in, share_a_block, overlap, TouchesBoth}
+use Rattle.ct_cdb.specs.Ranges.{numbers_from}
+use Rattle.ct_matrix.specs.Extents.{Print, blocks_in, share_a_block, overlap, TouchesBoth}
 
 later : (x y : ℕ) (xs : List ℕ) → Contains xs y → Contains (x ∷ xs) y
 later x y xs (k, within, here) = (suc k, omega arith, here)

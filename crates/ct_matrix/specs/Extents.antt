@@ -1,20 +1,16 @@
 -- Which blocks a command reads and writes, as sets of block numbers.
-use Rattle.std.specs.Prelude.{ℕ, zero, suc, ◌+◌, List, [], ◌∷◌, ◌++◌, Bool, ◌||◌, ◌==◌, ◌⊎◌, if◌then◌else◌}
+use Rattle.std.specs.Prelude.{ℕ, List, [], ◌∷◌, ◌++◌, Bool, ◌||◌, ◌==◌, ◌⊎◌, if◌then◌else◌}
 use Rattle.std.specs.List.{list_any, Contains}
-use Rattle.ct_cdb.specs.declared.op.Op.{Op}
-use Rattle.ct_cdb.specs.declared.op.Op.TheVariants.{Read10, Write10}
-use Rattle.ct_cdb.specs.Performed.{is_performed}
+use Rattle.ct_cdb.specs.declared.profile.Profile.{Profile}
+use Rattle.ct_cdb.specs.declared.ranges.LbaRange.{LbaRange}
+use Rattle.ct_cdb.specs.Ranges.{numbers_from}
+use Rattle.ct_cdb.specs.Profiles.{reads, writes, is_performed}
 use Rattle.ct_matrix.specs.declared.blocks.Extent.{Extent}
 
 -- what a command reads and what it writes, as ranges of blocks
 pub record Print : Type 0 where
   pub reads : List Extent
   pub writes : List Extent
-
--- so many block numbers, from the first on
-abbrev pub numbers_from : ℕ → ℕ → List ℕ
-numbers_from first zero = []
-numbers_from first (suc count) = first ∷ numbers_from (first + 1) count
 
 -- the numbers of all blocks of some ranges
 abbrev pub blocks_in : List Extent → List ℕ
@@ -43,19 +39,26 @@ Touches print block = Contains (blocks_in print.reads) block ⊎ Writes print bl
 abbrev pub TouchesBoth : Print → Print → Type 0
 TouchesBoth a b = (block : ℕ) × ((Writes a block × Touches b block) ⊎ (Touches a block × Writes b block))
 
--- a range of blocks, none where it is empty
-abbrev pub extents_of : ℕ → ℕ → List Extent
-extents_of lba count = if count == 0 then [] else record { first = lba; count = count } ∷ []
+-- ranges of blocks, without those that are empty
+abbrev pub extents_of : List LbaRange → List Extent
+extents_of [] = []
+extents_of (range ∷ ranges) =
+    if range.count == 0 then extents_of ranges else record { first = range.lba; count = range.count } ∷ extents_of ranges
 
--- READ (10) reads its range, WRITE (10) writes it (SBC-3)
-abbrev pub whole_print : Op → Print
-whole_print (Read10 lba count) = record { reads = extents_of lba count; writes = [] }
-whole_print (Write10 lba count) = record { reads = []; writes = extents_of lba count }
+abbrev pub extents_if : Bool → List LbaRange → List Extent
+extents_if goes ranges = if goes then extents_of ranges else []
+
+-- a command reads its ranges where a phase reads, and writes them where a phase writes (SBC-3)
+abbrev pub whole_print : Profile → Print
+whole_print profile = record {
+  reads = extents_if (list_any reads profile.phases) profile.ranges;
+  writes = extents_if (list_any writes profile.phases) profile.ranges;
+}
 
 -- a command that has no block to move, or is refused for its data-out or its range, touches none
 abbrev pub no_print : Print
 no_print = record { reads = []; writes = [] }
 
 -- the footprint of a command with so many bytes of data-out, on a disk of so many blocks
-unfoldable pub footprint_of : ℕ → ℕ → Op → Print
-footprint_of out blocks op = if is_performed out blocks op then whole_print op else no_print
+unfoldable pub footprint_of : ℕ → ℕ → Profile → Print
+footprint_of out blocks profile = if is_performed out blocks profile then whole_print profile else no_print

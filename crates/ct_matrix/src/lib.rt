@@ -27,7 +27,7 @@ pub use waits::{Waits, leave_uncounted};
 #[cfg(test)]
 mod tests {
     use super::*;
-    use ct_cdb::{Op, SerIdx};
+    use ct_cdb::{Form, Op, SerIdx};
     use std::marker::Brand;
     use std::sync::ledger::{Blank, Ledger};
 
@@ -46,9 +46,19 @@ mod tests {
         SerIdx::Sta,
     ];
 
+    fn read(lba: u64, count: u32) -> Op {
+        let form = Form::Ten;
+        Op::Read { form, lba, count }
+    }
+
+    fn write(lba: u64, count: u32) -> Op {
+        let form = Form::Ten;
+        Op::Write { form, lba, count }
+    }
+
     /// A write of two blocks, that waits.
-    fn writing(index: SerIdx, lba: u32, attr: Attr) -> Held {
-        let print = footprint(&Op::Write10 { lba, count: 2 }, &[0; 1024], 100);
+    fn writing(index: SerIdx, lba: u64, attr: Attr) -> Held {
+        let print = footprint(&write(lba, 2), &[0; 1024], 100);
         Held {
             index,
             print,
@@ -85,7 +95,7 @@ mod tests {
         !free_order && (flushed || restricted_pair && overlapping)
     }
 
-    fn agrees(a: SerIdx, b: SerIdx, free_order: bool, second: u32, overlapping: bool) -> bool {
+    fn agrees(a: SerIdx, b: SerIdx, free_order: bool, second: u64, overlapping: bool) -> bool {
         let first = writing(a, 5, Attr::Simple);
         let waiting = writing(b, second, Attr::Simple);
         let expected = conflicts_by_rules(a, b, free_order, overlapping);
@@ -132,11 +142,11 @@ mod tests {
 
     #[test]
     fn footprints_meet(rt: HostRuntime) {
-        let read = footprint(&Op::Read10 { lba: 5, count: 2 }, &[], 7);
-        let past_the_end = footprint(&Op::Read10 { lba: 5, count: 3 }, &[], 7);
-        let write = footprint(&Op::Write10 { lba: 6, count: 1 }, &[0; 512], 7);
-        let short = footprint(&Op::Write10 { lba: 6, count: 1 }, &[0; 511], 7);
-        let nothing = footprint(&Op::Write10 { lba: 6, count: 0 }, &[], 7);
+        let read = footprint(&read(5, 2), &[], 7);
+        let past_the_end = footprint(&read(5, 3), &[], 7);
+        let write = footprint(&write(6, 1), &[0; 512], 7);
+        let short = footprint(&write(6, 1), &[0; 511], 7);
+        let nothing = footprint(&write(6, 0), &[], 7);
         assert!(rt; overlaps(&read, &write) && overlaps(&write, &read) && overlaps(&write, &write));
         assert!(rt; !overlaps(&read, &read) && !overlaps(&past_the_end, &write));
         assert!(rt; !overlaps(&read, &short) && !overlaps(&read, &nothing));

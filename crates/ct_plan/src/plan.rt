@@ -151,7 +151,7 @@ fn puts_by(phase: Option<Phase>, made: u32) -> u32
     ensures { result ≡ puts_by phase made }
 {
     match phase {
-        Some(Phase::Put | Phase::PutSecondHalf | Phase::PutSame | Phase::Zero) => made,
-        Some(Phase::Get | Phase::Look | Phase::Compare) | None => 0,
+        Some(phase) if phase.writes() => made,
+        _ => 0,
     }
 }
