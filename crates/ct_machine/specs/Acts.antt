@@ -7,6 +7,7 @@ use Rattle.ct_word.specs.declared.names.Node.{Node}
 use Rattle.ct_word.specs.declared.names.Node.TheVariants.{A, B}
 use Rattle.ct_word.specs.Nexuses.{is_same_nexus}
 use Rattle.ct_sense.specs.declared.reply.Reply.{Reply}
+use Rattle.ct_sense.specs.declared.code.TheConstants.{OVERLAPPED_COMMANDS_ATTEMPTED}
 use Rattle.ct_sense.specs.declared.reply.Status.{Status}
 use Rattle.ct_sense.specs.declared.reply.Status.TheVariants.{Busy, TaskSetFull}
 use Rattle.ct_tmf.specs.declared.function.Ask.{Ask}
@@ -69,7 +70,7 @@ with_status status = record { status = status; sense = None; descriptor = false;
 -- blocks than the command needs
 unfoldable pub turned_cause : State → Command → Option Reply
 turned_cause s command =
-    if list_any (is_overlapped command) s.tasks then Some (check_condition s.control 0xb 0x4e 0 None)
+    if list_any (is_overlapped command) s.tasks then Some (check_condition s.control OVERLAPPED_COMMANDS_ATTEMPTED None)
     else if nat_le s.depth (length s.tasks) then Some (with_status TaskSetFull)
     else if nat_lt (free_blocks s) (need_in (length s.blocks) command) then Some (with_status Busy)
     else None

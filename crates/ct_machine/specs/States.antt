@@ -1,25 +1,20 @@
 -- The state of one logical unit with its two nodes. Which node a command runs at, and the messages between the
 -- nodes, are this project's own; the task set and its functions are those of SAM-5.
-use Rattle.std.specs.Prelude.{ℕ, ◌-◌, List, [], ◌∷◌, ◌++◌, length, map, Bool, true, false, not, ◌==◌, if◌then◌else◌, Option, Result, Ok, Err}
+use Rattle.std.specs.Prelude.{ℕ, ◌-◌, List, [], ◌∷◌, ◌++◌, length, map, Bool, true, false, not, ◌==◌, if◌then◌else◌, Option}
 use Rattle.std.specs.List.{find, sum_by}
 use Rattle.ct_word.specs.declared.names.Ha.{Ha}
 use Rattle.ct_word.specs.declared.names.Node.{Node}
 use Rattle.ct_word.specs.declared.names.Node.TheVariants.{A, B}
 use Rattle.ct_word.specs.declared.names.Room.{Room}
-use Rattle.ct_cdb.specs.declared.op.Cdb.{Cdb}
-use Rattle.ct_cdb.specs.declared.op.CdbFault.{CdbFault}
-use Rattle.ct_cdb.specs.declared.op.SerIdx.{SerIdx}
-use Rattle.ct_cdb.specs.declared.op.SerIdx.TheVariants.{Inq}
-use Rattle.ct_cdb.specs.Forms.{cdb_of}
-use Rattle.ct_cdb.specs.Index.{index_of}
 use Rattle.ct_tmf.specs.declared.function.Ask.{Ask}
-use Rattle.ct_matrix.specs.Extents.{Print, no_print, footprint_of}
+use Rattle.ct_matrix.specs.Extents.{footprint_of}
 use Rattle.ct_matrix.specs.Conflicts.{is_head}
 use Rattle.ct_matrix.specs.declared.held.Held.{Held}
 use Rattle.ct_matrix.specs.declared.held.HeldCommand.{HeldCommand}
 use Rattle.ct_matrix.specs.Queues.{TaskSet}
 use Rattle.ct_book.specs.declared.work.Command.{Command}
 use Rattle.ct_book.specs.declared.event.Kind2.{Kind2}
+use Rattle.ct_book.specs.Works.{profile_in}
 use Rattle.ct_book.specs.Journals.{KeptWork, numbered}
 use Rattle.ct_exec.specs.Controls.{ControlState, Disk, is_unrestricted, opening_control, opening_disk}
 use Rattle.ct_exec.specs.Executions.{need_in}
@@ -145,23 +140,15 @@ abbrev pub is_b : Node → Bool
 is_b A = false
 is_b B = true
 
--- what decides about waiting: all but a waiting command have begun
-abbrev pub index_by : Result Cdb CdbFault → SerIdx
-index_by (Ok cdb) = index_of cdb.op
-index_by (Err fault) = Inq
-
-abbrev pub print_by : ℕ → ℕ → Result Cdb CdbFault → Print
-print_by blocks out (Ok cdb) = footprint_of out blocks cdb.op
-print_by blocks out (Err fault) = no_print
-
+-- all but a waiting command have begun
 abbrev pub has_begun : Stage → Bool
 has_begun stage = not (is_waiting stage)
 
 -- a command, begun or not, as the table of conflicts sees it, on a disk of so many blocks
 abbrev pub held_by : ℕ → Command → Bool → Held
 held_by blocks command begun = record {
-  index = index_by (cdb_of command.cdb);
-  print = print_by blocks (length command.out) (cdb_of command.cdb);
+  index = (profile_in blocks command).index;
+  print = footprint_of (length command.out) blocks (profile_in blocks command);
   attr = command.attr;
   begun = begun;
 }

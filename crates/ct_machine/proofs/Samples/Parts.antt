@@ -7,7 +7,7 @@ use Rattle.ct_word.specs.declared.names.Node.{Node}
 use Rattle.ct_word.specs.declared.names.Node.TheVariants.{A, B}
 use Rattle.ct_cdb.specs.declared.op.Attr2.{Attr2}
 use Rattle.ct_cdb.specs.declared.op.Attr2.TheVariants.{Simple}
-use Rattle.ct_cdb.specs.Forms.{read10_of, write10_of}
+use Rattle.ct_cdb.specs.Forms.{row_of}
 use Rattle.ct_sense.specs.declared.reply.Reply.{Reply}
 use Rattle.ct_sense.specs.declared.reply.Status.{Status}
 use Rattle.ct_sense.specs.declared.reply.Status.TheVariants.{Good, CheckCondition}
@@ -20,6 +20,7 @@ use Rattle.ct_matrix.specs.Queues.{blocker_of, next_ready_of}
 use Rattle.ct_book.specs.declared.work.Work.TheVariants as work
 use Rattle.ct_book.specs.declared.event.Event.{Event}
 use Rattle.ct_book.specs.declared.event.Logged.{Logged}
+use Rattle.ct_book.specs.Works.{profile_in}
 use Rattle.ct_book.specs.Journals.{KeptWork}
 use Rattle.ct_exec.specs.Controls.{is_unrestricted, has_descriptors, tells_aborts, closing_control}
 use Rattle.ct_exec.specs.Executions.{refusal_of, refused_control, execute, plan_in, need_in}
@@ -34,7 +35,7 @@ use Rattle.ct_machine.specs.Serial.{serial_disk}
 
 -- all that a run computes with
 unfoldable pub machine : Unit {0}
-unfolding read10_of write10_of hits seeks plan_of need_of overlap footprint_of conflicts skips blocker_of next_ready_of is_unrestricted has_descriptors tells_aborts closing_control refusal_of refused_control execute plan_in need_in after turned_cause act_of replay journal_of serial_disk
+unfolding row_of profile_in hits seeks plan_of need_of overlap footprint_of conflicts skips blocker_of next_ready_of is_unrestricted has_descriptors tells_aborts closing_control refusal_of refused_control execute plan_in need_in after turned_cause act_of replay journal_of serial_disk
 machine = tt
 
 -- a unit of so many blocks
