@@ -19,6 +19,7 @@ pub mod Steps
 pub mod Entries
 pub mod Moves
 pub mod Overs
+mod Footprints
 pub mod Functions
 pub mod Runs
 pub mod Walk
