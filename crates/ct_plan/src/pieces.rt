@@ -1,5 +1,5 @@
 ghost use Rattle.std.specs.Prelude.{◌≡◌, ◌+◌, ◌-◌, ◌*◌, ◌^◌, ◌<◌, ◌≤◌, [], ◌∷◌, ◌++◌, length, slice_set, slice_index_or, OnOk, OnErr, OnSome};
-ghost use Rattle.ct_medium.specs.Causes.{HasCause};
+ghost use Rattle.ct_word.specs.Causes.{HasCause, no_end};
 ghost use Rattle.ct_pool.specs.Leases.{IsLeaseOf};
 ghost use Rattle.ct_plan.specs.Plans.{gets_among};
 ghost use Rattle.ct_plan.specs.Tasks.{IsReady, IsInside, IsCovered, asked};
@@ -25,7 +25,7 @@ fn get<B: Backend>(
     ensures room { OnOk result (body.new.room + 512 ≡ body.old.room) }
     ensures kept { OnErr result (body.new ≡ body.old) }
     ensures stays { B.blocks medium.new ≡ B.blocks medium.old }
-    ensures cause { HasCause (B.faults medium.old) (B.faults medium.new) result }
+    ensures cause { HasCause no_end (B.faults medium.old) (B.faults medium.new) result }
 {
     medium.get(lba, block.bytes_mut())?;
     body.append(block.bytes());
@@ -38,7 +38,7 @@ fn put<B: Backend>(lba: u32, bytes: &[u8], block: &mut Block, medium: &mut B) ->
     requires whole { length bytes.now ≡ 512 }
     ensures put { OnOk result (B.blocks medium.new ≡ slice_set (B.blocks medium.old) lba bytes.now) }
     ensures stays { OnErr result (B.blocks medium.new ≡ B.blocks medium.old) }
-    ensures cause { HasCause (B.faults medium.old) (B.faults medium.new) result }
+    ensures cause { HasCause no_end (B.faults medium.old) (B.faults medium.new) result }
 {
     block.fill(bytes);
     medium.swap(lba, block)
@@ -62,7 +62,7 @@ fn make<B: Backend>(
     ensures kept { OnErr result (t.new ≡ t.old) }
     ensures stays { OnErr result (B.blocks medium.new ≡ B.blocks medium.old) }
     ensures pool { Uses pool.old pool.new t.old.lease }
-    ensures cause { HasCause (B.faults medium.old) (B.faults medium.new) result }
+    ensures cause { HasCause no_end (B.faults medium.old) (B.faults medium.new) result }
 {
     let block = pool.block(&t.lease, t.done);
     match operation {
