@@ -1,11 +1,8 @@
 -- What may be written into the book of a unit.
-use Rattle.std.proofs.Common.{◌≡◌, ℕ, List, Bool, true, false, Option, Some, None, IsSome, IsSomeAnd, Result, Ok, Err, ◌<◌, length, refl, sym, ap, ◌∙◌, subst}
+use Rattle.std.proofs.Common.{◌≡◌, ℕ, List, Bool, true, false, Option, Some, None, IsSome, IsSomeAnd, ◌<◌, length, refl, sym, ap, ◌∙◌, subst}
 use Rattle.ct_word.specs.Nexuses.{no_nexuses}
-use Rattle.ct_cdb.specs.declared.op.Cdb.{Cdb}
-use Rattle.ct_cdb.specs.declared.op.CdbFault.{CdbFault}
-use Rattle.ct_cdb.specs.Forms.{cdb_of}
 use Rattle.ct_exec.specs.Controls.{Disk}
-use Rattle.ct_exec.specs.Executions.{Execution, execute, executed, effect_of, refusal_of}
+use Rattle.ct_exec.specs.Executions.{Execution, execute, executed, refusal_of}
 use Rattle.ct_book.specs.declared.work.Command.{Command}
 use Rattle.ct_sense.specs.declared.reply.Reply.{Reply}
 use Rattle.ct_matrix.specs.declared.held.HeldCommand.{HeldCommand}
@@ -40,13 +37,9 @@ pub clears_none : (disk : Disk) (command : Command) → (execute disk command).c
 unfolding execute
 clears_none disk command = go (refusal_of disk.control (length disk.blocks) command)
   where
-    by_effect : (decoded : Result Cdb CdbFault) → (effect_of disk command decoded).cleared ≡ no_nexuses
-    by_effect (Ok cdb) = refl
-    by_effect (Err fault) = refl
-
     go : (refusal : Option Reply) → (executed refusal disk command).cleared ≡ no_nexuses
     go (Some reply) = refl
-    go None = by_effect (cdb_of command.cdb)
+    go None = refl
 
 -- an execution that clears what no command does
 pub clears_known : (disk disk' : Disk) (command : Command) (reply : Reply) (cleared : List Bool) → execute disk command ≡ record { disk = disk'; reply = reply; cleared = cleared } → execute disk command ≡ record { disk = disk'; reply = reply; cleared = no_nexuses }

@@ -10,16 +10,13 @@ use Rattle.ct_word.specs.Kept.{Kept}
 use Rattle.ct_cdb.specs.declared.op.Attr2.{Attr2}
 use Rattle.ct_cdb.specs.declared.op.Cdb.{Cdb}
 use Rattle.ct_cdb.specs.declared.op.CdbFault.{CdbFault}
-use Rattle.ct_cdb.specs.declared.op.Op.{Op}
-use Rattle.ct_cdb.specs.declared.op.Op.TheVariants.{Read10, Write10}
 use Rattle.ct_cdb.specs.Forms.{cdb_of}
-use Rattle.ct_cdb.specs.Performed.{is_performed}
+use Rattle.ct_cdb.specs.Profiles.{profile_by}
+use Rattle.ct_cdb.proofs.Fitting.{decoded_fits, decoded_room}
 use Rattle.ct_sense.specs.declared.reply.Reply.{Reply}
 use Rattle.ct_pool.specs.Leases.{PoolState, LeaseState, IsLeaseOf, Takes, blocks_at, blocks_of}
-use Rattle.ct_plan.specs.declared.operation.BlockOp.{BlockOp}
 use Rattle.ct_plan.specs.declared.task.Task.{Task as PlanTask}
-use Rattle.ct_plan.specs.Plans.{plan_of, puts, gets_among}
-use Rattle.ct_plan.specs.Tasks.{IsReady, IsInside, IsCovered}
+use Rattle.ct_plan.specs.Tasks.{IsReady}
 use Rattle.ct_plan.proofs.Planned.{ready_first}
 use Rattle.ct_matrix.specs.declared.held.Held.{Held}
 use Rattle.ct_matrix.specs.declared.held.HeldCommand.{HeldCommand}
@@ -28,11 +25,11 @@ use Rattle.ct_matrix.specs.Queues.{TaskSet, placed, command_of}
 use Rattle.ct_book.specs.declared.work.Command.{Command}
 use Rattle.ct_book.specs.declared.work.Work.TheVariants as work
 use Rattle.ct_book.specs.declared.event.Event.TheVariants as event
-use Rattle.ct_book.specs.Works.{IsReady as IsFilled, room_for, room_in, data_room}
+use Rattle.ct_book.specs.Works.{IsReady as IsFilled, profile_in, room_for}
 use Rattle.ct_book.specs.Journals.{KeptWork, BookState, numbered, is_command, with_event, with_reply, without_body}
 use Rattle.ct_book.specs.Kept.{IsCommandNo, IsBodyOf}
 use Rattle.ct_book.proofs.Places.{numbered-apart}
-use Rattle.ct_exec.specs.Executions.{plan_in, plan_by, need_in}
+use Rattle.ct_exec.specs.Executions.{plan_in, need_in}
 use Rattle.ct_machine.specs.States.{Task, Arrival, held_of, held_by, queued, free_blocks}
 use Rattle.ct_machine.specs.Events.{after_event, after_enter, new_task}
 use Rattle.ct_machine.specs.Acts.{is_overlapped, turned_cause, entering, entering_with}
@@ -131,43 +128,11 @@ turned_wrote d p p' number reply a command none unanswered room book =
 
 -- what a task needs so that it can begin
 
-no_gets : (lba place count : ℕ) → gets_among (puts lba place count) ≡ 0
-no_gets lba place zero = refl
-no_gets lba place (suc count) = no_gets (lba + 1) (place + 1) count
-
-put_plan : (out blocks lba count : ℕ) → gets_among (plan_of out blocks (Write10 lba count)) ≡ 0
-unfolding plan_of
-put_plan out blocks lba count = go (is_performed out blocks (Write10 lba count))
-  where
-    go : (performed : Bool) → gets_among (if performed then puts lba 0 count else []) ≡ 0
-    go true = no_gets lba 0 count
-    go false = refl
-
-op_ready : (out blocks : ℕ) (op : Op) (room : ℕ) (pool : PoolState) (task : PlanTask) → task.plan.operations ≡ plan_of out blocks op → task.done ≡ 0 → IsLeaseOf pool task.lease → task.lease.count ≡ task.plan.need → data_room op ≤ task.body.room → IsReady out blocks pool task
-op_ready out blocks (Read10 lba count) room pool task planned none leased need enough = ready_first out blocks (Read10 lba count) pool task planned none leased need enough
-op_ready out blocks (Write10 lba count) room pool task planned none leased need enough =
-    let wide : IsReady out blocks pool (record task { body = record { items = []; room = 512 * count } }) = ready_first out blocks (Write10 lba count) pool (record task { body = record { items = []; room = 512 * count } }) planned none leased need (omega arith) in
-    record {
-      inside = wide.inside;
-      covered = wide.covered;
-      leased = leased;
-      need = need;
-      room = rw (none, planned, put_plan out blocks lba count) (omega arith);
-    }
-
-decoded_ready : (out blocks : ℕ) (decoded : Result Cdb CdbFault) (pool : PoolState) (task : PlanTask) → task.plan.operations ≡ plan_by blocks out decoded → task.done ≡ 0 → IsLeaseOf pool task.lease → task.lease.count ≡ task.plan.need → room_in decoded ≤ task.body.room → IsReady out blocks pool task
-decoded_ready out blocks (Ok cdb) pool task planned none leased need enough = op_ready out blocks cdb.op 0 pool task planned none leased need enough
-decoded_ready out blocks (Err fault) pool task planned none leased need enough = record {
-  inside = subst (λ (ops : List BlockOp). All (IsInside blocks) ops) (sym planned) (All-nil (IsInside blocks));
-  covered = subst (λ (ops : List BlockOp). All (IsCovered out) ops) (sym planned) (All-nil (IsCovered out));
-  leased = leased;
-  need = need;
-  room = rw (none, planned) (omega arith);
-}
-
 pub entry_ready : (blocks : ℕ) (command : Command) (pool : PoolState) (task : PlanTask) → task.plan.operations ≡ plan_in blocks command → task.done ≡ 0 → IsLeaseOf pool task.lease → task.lease.count ≡ task.plan.need → room_for command.cdb ≤ task.body.room → IsReady (length command.out) blocks pool task
-unfolding plan_in room_for
-entry_ready blocks command pool task planned none leased need enough = decoded_ready (length command.out) blocks (cdb_of command.cdb) pool task planned none leased need enough
+unfolding plan_in profile_in room_for
+entry_ready blocks command pool task planned none leased need enough =
+    let decoded : Result Cdb CdbFault = cdb_of command.cdb in
+    ready_first (length command.out) blocks (profile_by decoded command.out blocks) pool task (decoded_fits decoded command.out blocks) planned none leased need (omega (arith, decoded_room decoded command.out blocks, enough))
 
 -- the key of a new lease
 

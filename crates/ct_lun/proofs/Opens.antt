@@ -1,6 +1,7 @@
 -- A unit and its book as they are opened, and the room that is left between two calls.
 use Rattle.std.proofs.Common.{◌≡◌, ℕ, ◌<◌, ◌≤◌, List, [], ◌∷◌, length, replicate, sum_by, refl, arith}
 use Rattle.std.proofs.lemmas.List.Sums.{sum_by-cons}
+use Rattle.ct_word.specs.declared.limit.TheConstants.{MOST_BLOCKS}
 use Rattle.ct_word.specs.declared.names.LunNo.{LunNo}
 use Rattle.ct_word.specs.declared.names.Room.{Room}
 use Rattle.ct_word.specs.declared.names.Ha.TheVariants as ha
@@ -15,7 +16,7 @@ use Rattle.ct_lun.specs.Agreement.{AgreesWith}
 use Rattle.ct_lun.specs.Rooms.{task_room, room_of}
 use Rattle.ct_lun.proofs.Spent.{least_room}
 
-pub opened_agrees : (lun : LunNo) (depth pool : ℕ) (blocks : List (List ℕ)) (faults : ℕ) (room : Room) → length blocks ≤ 65536 → AgreesWith (opened_desk lun depth pool blocks faults) (empty_book room)
+pub opened_agrees : (lun : LunNo) (depth pool : ℕ) (blocks : List (List ℕ)) (faults : ℕ) (room : Room) → length blocks ≤ MOST_BLOCKS → AgreesWith (opened_desk lun depth pool blocks faults) (empty_book room)
 opened_agrees lun depth pool blocks faults room few = record {
   base = record {
     few = few;

@@ -1,6 +1,7 @@
 -- What a unit and its book have to do with each other.
 use Rattle.std.specs.Prelude.{◌≡◌, ℕ, ◌+◌, ◌<◌, ◌≤◌, List, [], length, map, true, false, Option, None, Some}
 use Rattle.std.specs.List.{sum_by}
+use Rattle.ct_word.specs.declared.limit.TheConstants.{MOST_BLOCKS}
 use Rattle.ct_sense.specs.declared.reply.Reply.{Reply}
 use Rattle.ct_pool.specs.Leases.{PoolState, leases_out}
 use Rattle.ct_plan.specs.Tasks.{IsReady}
@@ -38,7 +39,7 @@ IsLeft slot = slot.begun ≡ true → slot.task.done < length slot.task.plan.ope
 -- the task set is the machine's, each of its commands is that of the book, has no reply yet and leases what it needs,
 -- and the other blocks of the pool are free
 pub record Agrees (desk : Desk) (book : BookState) : Type 0 where
-  pub few : length desk.blocks ≤ 65536
+  pub few : length desk.blocks ≤ MOST_BLOCKS
   pub set : desk.set ≡ task_set_of (state_of desk book)
   pub each : Each (SlotAgrees (length desk.blocks) desk.pool book.works book.replies) desk.slots
   pub numbers : IsApart (map number_of desk.slots)

@@ -4,7 +4,9 @@ ghost use Rattle.std.specs.Prelude.{◌≡◌, ◌<◌, ◌≤◌, length, true,
 ghost use Rattle.ct_pool.specs.Leases.{Takes, leases_out};
 ghost use Rattle.ct_book.specs.Journals.{numbered, with_event, with_reply, without_body};
 ghost use Rattle.ct_book.specs.Kept.{IsCommandNo};
+ghost use Rattle.ct_exec.specs.Executions.{plan_in, need_in};
 ghost use Rattle.ct_exec.specs.Refusals.{refused_reply};
+ghost use Rattle.ct_machine.specs.States.{held_by};
 ghost use Rattle.ct_machine.specs.Acts.{entering, arriving, turned_cause};
 ghost use Rattle.ct_lun.specs.Desk.{Desk, slot_of};
 ghost use Rattle.ct_lun.specs.Overlaps.{cause_by};
@@ -12,19 +14,19 @@ ghost use Rattle.ct_lun.specs.States.{command_in, state_of};
 ghost use Rattle.ct_lun.specs.Agreement.{AgreesWith};
 ghost use Rattle.ct_lun.specs.Calls.{Wrote, Does, entered_as};
 
-use crate::mechanics::{command, held};
+use crate::mechanics::{Prepared, command, prepare};
 use crate::said::Entered;
 use crate::search::overlaps;
 use crate::slot::Slot;
 use crate::unit::Lun;
 use ct_book::{Book, Cmd, Event, Work};
-use ct_exec::{Refusal, check_condition, plan};
+use ct_exec::{Refusal, check_condition};
 use ct_machine::Answer;
 use ct_matrix::Waits;
 use ct_medium::Backend;
 use ct_plan::Task;
 use ct_pool::Lease;
-use ct_sense::{Status, key};
+use ct_sense::{Status, code};
 use ct_word::{CmdNo, Nexus, Node, Tag};
 
 impl<B: Backend> Lun<B> {
@@ -34,10 +36,10 @@ impl<B: Backend> Lun<B> {
         requires room { 0 < book.old.commands → 2 ≤ book.old.spare }
         ensures { Does self.old self.new book.old book.new (λ _. arriving Node.A (Work.Cmd cmd) (state_of self.old book.old)) result }
     {
-        let pieces = plan(cmd.command(), self.blocks()).length();
+        let prepared = prepare(cmd.command(), self.blocks());
         let _events = book.len();
-        match book.add(Node::A, Work::Cmd(cmd), pieces) {
-            Ok(no) => match self.enter(no, book) {
+        match book.add(Node::A, Work::Cmd(cmd), prepared.plan.length()) {
+            Ok(no) => match self.enter(no, prepared, book) {
                 Entered::Queued => Answer::Queued(no),
                 Entered::Turned => Answer::Turned(no),
             },
@@ -45,10 +47,13 @@ impl<B: Backend> Lun<B> {
         }
     }
 
-    /// A command of the book enters the task set, or is refused.
-    pub fn enter(&mut self, no: CmdNo, book: &mut Book) -> Entered
+    // A command of the book enters the task set, or is refused.
+    fn enter(&mut self, no: CmdNo, prepared: Prepared, book: &mut Book) -> Entered
         requires agrees { AgreesWith self.old book.old }
         requires command { IsCommandNo book.old no }
+        requires operations { prepared.plan.operations ≡ plan_in (length self.old.blocks) (command_in book.old.works no) }
+        requires need { prepared.plan.need ≡ need_in (length self.old.blocks) (command_in book.old.works no) }
+        requires held { prepared.held ≡ held_by (length self.old.blocks) (command_in book.old.works no) false }
         requires fresh { IsNone (slot_of no self.old.slots) }
         requires unanswered { numbered no book.old.replies ≡ Some None }
         requires untaken { numbered no book.old.untaken ≡ Some true }
@@ -58,11 +63,9 @@ impl<B: Backend> Lun<B> {
         ensures agrees { AgreesWith self.new book.new }
         ensures faults { self.new.faults ≡ self.old.faults }
     {
-        let blocks = self.blocks();
         let command = command(no, book);
         let (nexus, tag) = (command.nexus, command.tag);
-        let plan = plan(command, blocks);
-        let held = held(command, blocks);
+        let Prepared { plan, held } = prepared;
         match self.admit(nexus, tag, plan.need()) {
             Ok(lease) => {
                 let body = book.take_body(no);
@@ -101,7 +104,7 @@ impl<B: Backend> Lun<B> {
         ensures unchanged { OnErr result (self.new ≡ self.old) }
     {
         if overlaps(self.slots.as_slice(), nexus, tag) {
-            return Err(check_condition(&self.control, key::ABORTED_COMMAND, 0x4e, 0, None));
+            return Err(check_condition(&self.control, code::OVERLAPPED_COMMANDS_ATTEMPTED, None));
         }
         if self.queue.is_full() {
             return Err(Refusal::of_status(Status::TaskSetFull));

@@ -5,7 +5,7 @@ ghost use Rattle.ct_pool.specs.Leases.{IsLeaseOf};
 ghost use Rattle.ct_plan.specs.Tasks.{IsReady};
 ghost use Rattle.ct_matrix.specs.Queues.{command_of, placed, with_begun};
 ghost use Rattle.ct_book.specs.Kept.{IsCommandNo};
-ghost use Rattle.ct_exec.specs.Executions.{refusal_of, refused_control};
+ghost use Rattle.ct_exec.specs.Executions.{plan_in, need_in, refusal_of, refused_control};
 ghost use Rattle.ct_exec.specs.Refusals.{refused_reply};
 ghost use Rattle.ct_machine.specs.States.{held_by};
 ghost use Rattle.ct_lun.specs.Desk.{Desk, slot_at, placed_slot, with_control};
@@ -16,11 +16,12 @@ use crate::search::first_waiting;
 use crate::slot::Slot;
 use crate::unit::Lun;
 use ct_book::{Book, Command, Work};
-use ct_cdb::{Attr2, Op, SerIdx, decode, index};
+use ct_cdb::Attr2;
 use ct_exec::{Refusal, check};
-use ct_matrix::{Held, Waits, footprint, leave_uncounted};
+use ct_matrix::{Footprint, Held, Waits, leave_uncounted};
 use ct_medium::Backend;
-use ct_plan::{Piece, Task, advance};
+use ct_plan::{Piece, Plan, Task, advance};
+use ct_word::limit::MOST_BLOCKS;
 use ct_word::{CmdNo, Reserve};
 
 impl<B: Backend> Lun<B> {
@@ -132,19 +133,31 @@ pub(crate) fn command(no: CmdNo, book: &Book) -> &Command
     }
 }
 
-/// A waiting command as the task set sees it.
-#[tactic(auto, unfolding(ct_matrix::specs::Extents::footprint_of))]
-pub(crate) fn held(command: &Command, blocks: u32) -> Held
-    ensures { result ≡ held_by blocks command.now false }
+/// What a command brings along where it arrives: its plan, and how the task set sees it while it waits.
+#[derive(Debug, Drop)]
+pub(crate) struct Prepared {
+    pub plan: Plan,
+    pub held: Held,
+}
+
+/// A command made ready to enter, by its row.
+#[tactic(auto, unfolding(ct_exec::specs::Executions::plan_in, ct_exec::specs::Executions::need_in))]
+pub(crate) fn prepare(command: &Command, blocks: u32) -> Prepared
+    requires { blocks ≤ MOST_BLOCKS }
+    ensures operations { result.plan.operations ≡ plan_in blocks command.now }
+    ensures need { result.plan.need ≡ need_in blocks command.now }
+    ensures held { result.held ≡ held_by blocks command.now false }
 {
-    let (index, op) = match decode(command.cdb.as_slice()) {
-        Ok(cdb) => (index(&cdb.op), cdb.op),
-        Err(_) => (SerIdx::Inq, Op::Read10 { lba: 0, count: 0 }),
-    };
-    Held {
-        index,
-        print: footprint(&op, command.out.as_slice(), blocks),
+    let profile = command.profile(blocks);
+    let out = command.out.len();
+    let held = Held {
+        index: profile.index,
+        print: Footprint::by(&profile, out, blocks),
         attr: command.attr,
         begun: false,
+    };
+    Prepared {
+        plan: Plan::by(profile, out, blocks),
+        held,
     }
 }

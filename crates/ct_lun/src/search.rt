@@ -36,7 +36,7 @@ pub(crate) fn first_waiting(slots: &[Slot]) -> usize
 pub(crate) fn overlaps(slots: &[Slot], nexus: Nexus, tag: Tag) -> bool
     ensures { result ≡ list_any (is_overlapped_by nexus tag) slots.now }
 {
-    slots.iter().any(|slot| {
-        nexus.port == slot.nexus.port && nexus.init == slot.nexus.init && tag.0 == slot.tag.0
-    })
+    slots
+        .iter()
+        .any(|slot| nexus.is_same(slot.nexus) && tag.0 == slot.tag.0)
 }

@@ -1,4 +1,4 @@
-ghost use Rattle.std.specs.Prelude.{◌≡◌, ◌≤◌, ◌<◌, length, IfOk, if◌then◌else◌};
+ghost use Rattle.std.specs.Prelude.{◌≡◌, ◌≤◌, ◌<◌, length, IfOk};
 ghost use Rattle.ct_word.specs.Nexuses.{IsNexus};
 ghost use Rattle.ct_lun.specs.Agreement.{AgreesWith};
 
@@ -6,9 +6,9 @@ use super::*;
 use ct_book::{Book, Cmd};
 use ct_cdb::Attr2;
 use ct_machine::Answer;
-use ct_medium::{Backend, Ram};
+use ct_medium::{Backend, FaultyRam, Ram};
 use ct_sense::Status;
-use ct_word::{Block, Bytes, CmdNo, Failed, LunNo, Nexus, Room, Tag};
+use ct_word::{Bytes, CmdNo, LunNo, Nexus, Room, Tag};
 use std::alloc::Global;
 use std::test::Fail;
 
@@ -174,44 +174,10 @@ fn turns_commands_away(rt: HostRuntime) -> Result<(), Fail> {
     Ok(())
 }
 
-// A medium that fails at its first call.
-#[derive(Drop)]
-struct Failing {
-    ram: Ram,
-    failed: bool,
-}
-
-impl Backend for Failing {
-    ghost blocks = { λ f. f.ram };
-
-    ghost faults = { λ f. if f.failed then 1 else 0 };
-
-    fn len(&self) -> u32 {
-        self.ram.len()
-    }
-
-    fn get(&mut self, lba: u32, into: &mut [u8; 512]) -> Result<(), Failed> {
-        if !self.failed {
-            self.failed = true;
-            return Err(Failed);
-        }
-        self.ram.get(lba, into)
-    }
-
-    fn swap(&mut self, lba: u32, block: &mut Block) -> Result<(), Failed> {
-        if !self.failed {
-            self.failed = true;
-            return Err(Failed);
-        }
-        self.ram.swap(lba, block)
-    }
-}
-
 #[test]
 fn medium_fails(rt: HostRuntime) -> Result<(), Fail> {
     let alloc = rt.alloc();
-    let ram = Ram::open(alloc, 8)?;
-    let medium = Failing { ram, failed: false };
+    let medium = FaultyRam::open(alloc, 8, [0].to_vec(alloc)?)?;
     let (mut lun, mut book) = open(alloc, 2, 4, medium)?;
     let commands: [(u32, &[u8], &[u8]); 2] = [(1, WRITE_AT_0, &[5; 1024]), (2, READ_AT_1, &[])];
     assert_eq!(rt; arrive_all(alloc, &mut lun, &mut book, &commands)?, 2);

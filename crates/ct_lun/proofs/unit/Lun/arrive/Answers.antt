@@ -1,14 +1,16 @@
-use Rattle.std.proofs.Common.{◌≡◌, ◌≤◌, ◌+◌, ℕ, List, Bool, Some, None, IsNone, length, if◌then◌else◌, refl, sym, ap, ◌∙◌, subst, arith}
+use Rattle.std.proofs.Common.{◌≡◌, ◌≤◌, ◌+◌, ℕ, List, Bool, false, Some, None, IsNone, length, if◌then◌else◌, refl, sym, ap, ◌∙◌, subst, arith}
 use Rattle.ct_word.specs.declared.names.Node.TheVariants.{A}
 use Rattle.ct_plan.specs.declared.operation.BlockOp.{BlockOp}
 use Rattle.ct_book.specs.declared.work.Command.{Command}
 use Rattle.ct_book.specs.declared.work.Work.TheVariants as work
 use Rattle.ct_book.specs.Journals.{BookState, numbered, has_room, with_work}
-use Rattle.ct_exec.specs.Executions.{plan_in}
+use Rattle.ct_exec.specs.Executions.{plan_in, need_in}
+use Rattle.ct_machine.specs.States.{held_by}
 use Rattle.ct_machine.specs.declared.act.Answer.TheVariants as answer
 use Rattle.ct_lun.specs.Desk.{Desk, slot_of}
+use Rattle.ct_lun.specs.States.{command_in}
 use Rattle.ct_lun.specs.Agreement.{Agrees}
-use Rattle.ct_lun.proofs.Arrivals.{add_ok, room_parts, added_wrote, next_absent, added_reply, arrive_does}
+use Rattle.ct_lun.proofs.Arrivals.{add_ok, room_parts, added_wrote, added_named, next_absent, added_reply, arrive_does}
 use Rattle.ct_lun.proofs.unit.Lun.arrive.Goals as goal
 
 pub enter-requires-clause-agrees : goal.enter-requires-clause-agrees
@@ -16,23 +18,59 @@ enter-requires-clause-agrees g c =
     let old : Desk = c.args.self.now in
     let book : BookState = c.args.book.now in
     let command : Command = c.args.cmd in
-    let pieces : ℕ = c.length-pieces.result in
+    let pieces : ℕ = c.length.result in
     let same : pieces ≡ length (plan_in (length old.blocks) command) =
-    c.length-pieces.ensures ∙ ap (λ (ops : List BlockOp). length ops) (c.plan.ensures.operations ∙ ap (λ (b : ℕ). plan_in b c.command.result.now) c.blocks-2.ensures ∙ ap (plan_in (length old.blocks)) c.command.ensures) in
+    c.length.ensures ∙ ap (λ (ops : List BlockOp). length ops) (c.prepare-prepared.ensures.operations ∙ ap (λ (b : ℕ). plan_in b c.command.result.now) c.blocks-2.ensures ∙ ap (plan_in (length old.blocks)) c.command.ensures) in
     let ok = add_ok (has_room book (work.Cmd command) pieces) c.add.result c.in-Ok.no (length book.works + 1) (work.Cmd command) c.add.ensures.answer c.in-Ok.is in
     let added : c.add.new.self ≡ with_work book A (work.Cmd command) pieces =
     c.add.ensures.after ∙ ap (λ (b : Bool). if b then with_work book A (work.Cmd command) pieces else book) ok.0 in
     let spare : 2 ≤ book.spare = c.requires.room (room_parts book command pieces ok.0).0 in
     record { base = subst (λ (b : BookState). Agrees old b) (sym added) (added_wrote old book command pieces c.requires.agrees.base same (omega arith)); left = c.requires.agrees.left }
 
+pub enter-requires-clause-operations : goal.enter-requires-clause-operations
+enter-requires-clause-operations g c =
+    let old : Desk = c.args.self.now in
+    let book : BookState = c.args.book.now in
+    let command : Command = c.args.cmd in
+    let pieces : ℕ = c.length.result in
+    let ok = add_ok (has_room book (work.Cmd command) pieces) c.add.result c.in-Ok.no (length book.works + 1) (work.Cmd command) c.add.ensures.answer c.in-Ok.is in
+    let added : c.add.new.self ≡ with_work book A (work.Cmd command) pieces =
+    c.add.ensures.after ∙ ap (λ (b : Bool). if b then with_work book A (work.Cmd command) pieces else book) ok.0 in
+    let named : c.command.result.now ≡ command_in c.add.new.self.works c.in-Ok.no = c.command.ensures ∙ sym (added_named book c.add.new.self command pieces c.in-Ok.no added ok.1) in
+    c.prepare-prepared.ensures.operations ∙ ap (λ (b : ℕ). plan_in b c.command.result.now) c.blocks-2.ensures ∙ ap (plan_in (length old.blocks)) named
+
+pub enter-requires-clause-need : goal.enter-requires-clause-need
+enter-requires-clause-need g c =
+    let old : Desk = c.args.self.now in
+    let book : BookState = c.args.book.now in
+    let command : Command = c.args.cmd in
+    let pieces : ℕ = c.length.result in
+    let ok = add_ok (has_room book (work.Cmd command) pieces) c.add.result c.in-Ok.no (length book.works + 1) (work.Cmd command) c.add.ensures.answer c.in-Ok.is in
+    let added : c.add.new.self ≡ with_work book A (work.Cmd command) pieces =
+    c.add.ensures.after ∙ ap (λ (b : Bool). if b then with_work book A (work.Cmd command) pieces else book) ok.0 in
+    let named : c.command.result.now ≡ command_in c.add.new.self.works c.in-Ok.no = c.command.ensures ∙ sym (added_named book c.add.new.self command pieces c.in-Ok.no added ok.1) in
+    c.prepare-prepared.ensures.need ∙ ap (λ (b : ℕ). need_in b c.command.result.now) c.blocks-2.ensures ∙ ap (need_in (length old.blocks)) named
+
+pub enter-requires-clause-held : goal.enter-requires-clause-held
+enter-requires-clause-held g c =
+    let old : Desk = c.args.self.now in
+    let book : BookState = c.args.book.now in
+    let command : Command = c.args.cmd in
+    let pieces : ℕ = c.length.result in
+    let ok = add_ok (has_room book (work.Cmd command) pieces) c.add.result c.in-Ok.no (length book.works + 1) (work.Cmd command) c.add.ensures.answer c.in-Ok.is in
+    let added : c.add.new.self ≡ with_work book A (work.Cmd command) pieces =
+    c.add.ensures.after ∙ ap (λ (b : Bool). if b then with_work book A (work.Cmd command) pieces else book) ok.0 in
+    let named : c.command.result.now ≡ command_in c.add.new.self.works c.in-Ok.no = c.command.ensures ∙ sym (added_named book c.add.new.self command pieces c.in-Ok.no added ok.1) in
+    c.prepare-prepared.ensures.held ∙ ap (λ (b : ℕ). held_by b c.command.result.now false) c.blocks-2.ensures ∙ ap (λ (x : Command). held_by (length old.blocks) x false) named
+
 pub enter-requires-clause-fresh : goal.enter-requires-clause-fresh
 enter-requires-clause-fresh g c =
     let old : Desk = c.args.self.now in
     let book : BookState = c.args.book.now in
     let command : Command = c.args.cmd in
-    let pieces : ℕ = c.length-pieces.result in
+    let pieces : ℕ = c.length.result in
     let same : pieces ≡ length (plan_in (length old.blocks) command) =
-    c.length-pieces.ensures ∙ ap (λ (ops : List BlockOp). length ops) (c.plan.ensures.operations ∙ ap (λ (b : ℕ). plan_in b c.command.result.now) c.blocks-2.ensures ∙ ap (plan_in (length old.blocks)) c.command.ensures) in
+    c.length.ensures ∙ ap (λ (ops : List BlockOp). length ops) (c.prepare-prepared.ensures.operations ∙ ap (λ (b : ℕ). plan_in b c.command.result.now) c.blocks-2.ensures ∙ ap (plan_in (length old.blocks)) c.command.ensures) in
     let ok = add_ok (has_room book (work.Cmd command) pieces) c.add.result c.in-Ok.no (length book.works + 1) (work.Cmd command) c.add.ensures.answer c.in-Ok.is in
     let added : c.add.new.self ≡ with_work book A (work.Cmd command) pieces =
     c.add.ensures.after ∙ ap (λ (b : Bool). if b then with_work book A (work.Cmd command) pieces else book) ok.0 in
@@ -43,9 +81,9 @@ enter-requires-clause-unanswered g c =
     let old : Desk = c.args.self.now in
     let book : BookState = c.args.book.now in
     let command : Command = c.args.cmd in
-    let pieces : ℕ = c.length-pieces.result in
+    let pieces : ℕ = c.length.result in
     let same : pieces ≡ length (plan_in (length old.blocks) command) =
-    c.length-pieces.ensures ∙ ap (λ (ops : List BlockOp). length ops) (c.plan.ensures.operations ∙ ap (λ (b : ℕ). plan_in b c.command.result.now) c.blocks-2.ensures ∙ ap (plan_in (length old.blocks)) c.command.ensures) in
+    c.length.ensures ∙ ap (λ (ops : List BlockOp). length ops) (c.prepare-prepared.ensures.operations ∙ ap (λ (b : ℕ). plan_in b c.command.result.now) c.blocks-2.ensures ∙ ap (plan_in (length old.blocks)) c.command.ensures) in
     let ok = add_ok (has_room book (work.Cmd command) pieces) c.add.result c.in-Ok.no (length book.works + 1) (work.Cmd command) c.add.ensures.answer c.in-Ok.is in
     let added : c.add.new.self ≡ with_work book A (work.Cmd command) pieces =
     c.add.ensures.after ∙ ap (λ (b : Bool). if b then with_work book A (work.Cmd command) pieces else book) ok.0 in
@@ -57,9 +95,9 @@ returns-in-Queued g c =
     let old : Desk = c.args.self.now in
     let book : BookState = c.args.book.now in
     let command : Command = c.args.cmd in
-    let pieces : ℕ = c.length-pieces.result in
+    let pieces : ℕ = c.length.result in
     let same : pieces ≡ length (plan_in (length old.blocks) command) =
-    c.length-pieces.ensures ∙ ap (λ (ops : List BlockOp). length ops) (c.plan.ensures.operations ∙ ap (λ (b : ℕ). plan_in b c.command.result.now) c.blocks-2.ensures ∙ ap (plan_in (length old.blocks)) c.command.ensures) in
+    c.length.ensures ∙ ap (λ (ops : List BlockOp). length ops) (c.prepare-prepared.ensures.operations ∙ ap (λ (b : ℕ). plan_in b c.command.result.now) c.blocks-2.ensures ∙ ap (plan_in (length old.blocks)) c.command.ensures) in
     let ok = add_ok (has_room book (work.Cmd command) pieces) c.add.result c.in-Ok.no (length book.works + 1) (work.Cmd command) c.add.ensures.answer c.in-Ok.is in
     let added : c.add.new.self ≡ with_work book A (work.Cmd command) pieces =
     c.add.ensures.after ∙ ap (λ (b : Bool). if b then with_work book A (work.Cmd command) pieces else book) ok.0 in
@@ -72,9 +110,9 @@ returns-in-Turned g c =
     let old : Desk = c.args.self.now in
     let book : BookState = c.args.book.now in
     let command : Command = c.args.cmd in
-    let pieces : ℕ = c.length-pieces.result in
+    let pieces : ℕ = c.length.result in
     let same : pieces ≡ length (plan_in (length old.blocks) command) =
-    c.length-pieces.ensures ∙ ap (λ (ops : List BlockOp). length ops) (c.plan.ensures.operations ∙ ap (λ (b : ℕ). plan_in b c.command.result.now) c.blocks-2.ensures ∙ ap (plan_in (length old.blocks)) c.command.ensures) in
+    c.length.ensures ∙ ap (λ (ops : List BlockOp). length ops) (c.prepare-prepared.ensures.operations ∙ ap (λ (b : ℕ). plan_in b c.command.result.now) c.blocks-2.ensures ∙ ap (plan_in (length old.blocks)) c.command.ensures) in
     let ok = add_ok (has_room book (work.Cmd command) pieces) c.add.result c.in-Ok.no (length book.works + 1) (work.Cmd command) c.add.ensures.answer c.in-Ok.is in
     let added : c.add.new.self ≡ with_work book A (work.Cmd command) pieces =
     c.add.ensures.after ∙ ap (λ (b : Bool). if b then with_work book A (work.Cmd command) pieces else book) ok.0 in

@@ -6,7 +6,7 @@ use Rattle.ct_book.specs.declared.work.Command.{Command}
 use Rattle.ct_book.specs.declared.event.Event.TheVariants as event
 use Rattle.ct_book.specs.Works.{IsReady as IsFilled}
 use Rattle.ct_book.specs.Journals.{BookState, with_event, without_body}
-use Rattle.ct_exec.specs.Executions.{plan_in, need_in}
+use Rattle.ct_exec.specs.Executions.{need_in}
 use Rattle.ct_exec.specs.Refusals.{refused_reply}
 use Rattle.ct_machine.specs.States.{held_by}
 use Rattle.ct_machine.specs.Acts.{turned_cause}
@@ -27,7 +27,7 @@ returns-in-Ok-clause-answer g c =
     let number : ℕ = c.args.no in
     let command : Command = c.command-command.result.now in
     let named : command ≡ command_in book.works number = c.command-command.ensures in
-    let need : c.need.result ≡ need_in (length old.blocks) command = c.need.ensures ∙ c.plan-plan.ensures.need ∙ ap (λ (b : ℕ). need_in b command) c.blocks-blocks.ensures in
+    let need : c.need.result ≡ need_in (length old.blocks) command = c.need.ensures ∙ c.requires.need ∙ ap (need_in (length old.blocks)) (sym named) in
     let free : turned_cause (state_of old book) (command_in book.works number) ≡ None =
     ap (turned_cause (state_of old book)) (sym named) ∙ sym (cause_known old book command c.need.result c.requires.agrees.base need) ∙ c.in-Ok.ensures.free in
     ap entered_as (sym free)
@@ -39,28 +39,28 @@ returns-in-Ok-clause-wrote g c =
     let number : ℕ = c.args.no in
     let command : Command = c.command-command.result.now in
     let named : command ≡ command_in book.works number = c.command-command.ensures in
-    let need : c.need.result ≡ need_in (length old.blocks) command = c.need.ensures ∙ c.plan-plan.ensures.need ∙ ap (λ (b : ℕ). need_in b command) c.blocks-blocks.ensures in
+    let need : c.need.result ≡ need_in (length old.blocks) command = c.need.ensures ∙ c.requires.need ∙ ap (need_in (length old.blocks)) (sym named) in
     let free : turned_cause (state_of old book) (command_in book.works number) ≡ None =
     ap (turned_cause (state_of old book)) (sym named) ∙ sym (cause_known old book command c.need.result c.requires.agrees.base need) ∙ c.in-Ok.ensures.free in
     let mid : Desk = c.admit.new.self in
     let new : Desk = c.put_in.new.self in
-    let held : Held = c.held-held.result in
-    let slot : Slot = record { no = number; nexus = command.nexus; tag = command.tag; begun = false; task = record { plan = c.plan-plan.result; lease = c.in-Ok.lease; body = c.take_body-body.result; done = 0 } } in
+    let held : Held = c.args.prepared.held in
+    let slot : Slot = record { no = number; nexus = command.nexus; tag = command.tag; begun = false; task = record { plan = c.args.prepared.plan; lease = c.in-Ok.lease; body = c.take_body-body.result; done = 0 } } in
     let filled : IsFilled (command_in book.works number) c.take_body-body.result = body_known book number c.take_body-body.result c.requires.command c.take_body-body.ensures.ready in
-    let holds : held ≡ held_by (length old.blocks) (command_in book.works number) false = c.held-held.ensures ∙ ap (λ (b : ℕ). held_by b command false) c.blocks-blocks.ensures ∙ ap (λ (x : Command). held_by (length old.blocks) x false) named in
+    let holds : held ≡ held_by (length old.blocks) (command_in book.works number) false = c.requires.held in
     let entry : IsEntry old book number slot = record {
       no = refl;
       nexus = ap (λ (x : Command). x.nexus) named;
       tag = ap (λ (x : Command). x.tag) named;
       begun = refl;
-      operations = c.plan-plan.ensures.operations ∙ ap (λ (b : ℕ). plan_in b command) c.blocks-blocks.ensures ∙ ap (plan_in (length old.blocks)) named;
-      need = c.plan-plan.ensures.need ∙ ap (λ (b : ℕ). need_in b command) c.blocks-blocks.ensures ∙ ap (need_in (length old.blocks)) named;
+      operations = c.requires.operations;
+      need = c.requires.need;
       done = refl;
       empty = filled.empty;
       room = filled.room;
     } in
     let pool : new.pool ≡ mid.pool = ap (λ (d : Desk). d.pool) c.put_in.ensures in
-    let takes : Takes old.pool new.pool c.plan-plan.result.need c.in-Ok.lease = subst (λ (x : PoolState). Takes old.pool x c.plan-plan.result.need c.in-Ok.lease) (sym pool) (subst (λ (k : ℕ). Takes old.pool mid.pool k c.in-Ok.lease) c.need.ensures c.in-Ok.ensures.takes) in
+    let takes : Takes old.pool new.pool c.args.prepared.plan.need c.in-Ok.lease = subst (λ (x : PoolState). Takes old.pool x c.args.prepared.plan.need c.in-Ok.lease) (sym pool) (subst (λ (k : ℕ). Takes old.pool mid.pool k c.in-Ok.lease) c.need.ensures c.in-Ok.ensures.takes) in
     let desk : new ≡ record old { set = record old.set { commands = placed (record { no = number; held = held }) old.set.commands }; slots = placed_slot held.attr slot old.slots; pool = new.pool } =
     c.put_in.ensures
     ∙ ap (λ (d : Desk). record d { set = record d.set { commands = placed (record { no = number; held = held }) d.set.commands }; slots = placed_slot held.attr slot d.slots }) c.in-Ok.ensures.after
@@ -77,26 +77,26 @@ returns-in-Ok-clause-agrees g c =
     let number : ℕ = c.args.no in
     let command : Command = c.command-command.result.now in
     let named : command ≡ command_in book.works number = c.command-command.ensures in
-    let need : c.need.result ≡ need_in (length old.blocks) command = c.need.ensures ∙ c.plan-plan.ensures.need ∙ ap (λ (b : ℕ). need_in b command) c.blocks-blocks.ensures in
+    let need : c.need.result ≡ need_in (length old.blocks) command = c.need.ensures ∙ c.requires.need ∙ ap (need_in (length old.blocks)) (sym named) in
     let mid : Desk = c.admit.new.self in
     let new : Desk = c.put_in.new.self in
-    let held : Held = c.held-held.result in
-    let slot : Slot = record { no = number; nexus = command.nexus; tag = command.tag; begun = false; task = record { plan = c.plan-plan.result; lease = c.in-Ok.lease; body = c.take_body-body.result; done = 0 } } in
+    let held : Held = c.args.prepared.held in
+    let slot : Slot = record { no = number; nexus = command.nexus; tag = command.tag; begun = false; task = record { plan = c.args.prepared.plan; lease = c.in-Ok.lease; body = c.take_body-body.result; done = 0 } } in
     let filled : IsFilled (command_in book.works number) c.take_body-body.result = body_known book number c.take_body-body.result c.requires.command c.take_body-body.ensures.ready in
-    let holds : held ≡ held_by (length old.blocks) (command_in book.works number) false = c.held-held.ensures ∙ ap (λ (b : ℕ). held_by b command false) c.blocks-blocks.ensures ∙ ap (λ (x : Command). held_by (length old.blocks) x false) named in
+    let holds : held ≡ held_by (length old.blocks) (command_in book.works number) false = c.requires.held in
     let entry : IsEntry old book number slot = record {
       no = refl;
       nexus = ap (λ (x : Command). x.nexus) named;
       tag = ap (λ (x : Command). x.tag) named;
       begun = refl;
-      operations = c.plan-plan.ensures.operations ∙ ap (λ (b : ℕ). plan_in b command) c.blocks-blocks.ensures ∙ ap (plan_in (length old.blocks)) named;
-      need = c.plan-plan.ensures.need ∙ ap (λ (b : ℕ). need_in b command) c.blocks-blocks.ensures ∙ ap (need_in (length old.blocks)) named;
+      operations = c.requires.operations;
+      need = c.requires.need;
       done = refl;
       empty = filled.empty;
       room = filled.room;
     } in
     let pool : new.pool ≡ mid.pool = ap (λ (d : Desk). d.pool) c.put_in.ensures in
-    let takes : Takes old.pool new.pool c.plan-plan.result.need c.in-Ok.lease = subst (λ (x : PoolState). Takes old.pool x c.plan-plan.result.need c.in-Ok.lease) (sym pool) (subst (λ (k : ℕ). Takes old.pool mid.pool k c.in-Ok.lease) c.need.ensures c.in-Ok.ensures.takes) in
+    let takes : Takes old.pool new.pool c.args.prepared.plan.need c.in-Ok.lease = subst (λ (x : PoolState). Takes old.pool x c.args.prepared.plan.need c.in-Ok.lease) (sym pool) (subst (λ (k : ℕ). Takes old.pool mid.pool k c.in-Ok.lease) c.need.ensures c.in-Ok.ensures.takes) in
     let desk : new ≡ record old { set = record old.set { commands = placed (record { no = number; held = held }) old.set.commands }; slots = placed_slot held.attr slot old.slots; pool = new.pool } =
     c.put_in.ensures
     ∙ ap (λ (d : Desk). record d { set = record d.set { commands = placed (record { no = number; held = held }) d.set.commands }; slots = placed_slot held.attr slot d.slots }) c.in-Ok.ensures.after
@@ -113,7 +113,7 @@ returns-in-Err-clause-answer g c =
     let number : ℕ = c.args.no in
     let command : Command = c.command-command.result.now in
     let named : command ≡ command_in book.works number = c.command-command.ensures in
-    let need : c.need.result ≡ need_in (length old.blocks) command = c.need.ensures ∙ c.plan-plan.ensures.need ∙ ap (λ (b : ℕ). need_in b command) c.blocks-blocks.ensures in
+    let need : c.need.result ≡ need_in (length old.blocks) command = c.need.ensures ∙ c.requires.need ∙ ap (need_in (length old.blocks)) (sym named) in
     let cause : turned_cause (state_of old book) (command_in book.works number) ≡ Some (refused_reply c.in-Err.refusal) =
     ap (turned_cause (state_of old book)) (sym named) ∙ sym (cause_known old book command c.need.result c.requires.agrees.base need) ∙ c.in-Err.ensures.cause in
     ap entered_as (sym cause)
@@ -125,7 +125,7 @@ returns-in-Err-clause-wrote g c =
     let number : ℕ = c.args.no in
     let command : Command = c.command-command.result.now in
     let named : command ≡ command_in book.works number = c.command-command.ensures in
-    let need : c.need.result ≡ need_in (length old.blocks) command = c.need.ensures ∙ c.plan-plan.ensures.need ∙ ap (λ (b : ℕ). need_in b command) c.blocks-blocks.ensures in
+    let need : c.need.result ≡ need_in (length old.blocks) command = c.need.ensures ∙ c.requires.need ∙ ap (need_in (length old.blocks)) (sym named) in
     let cause : turned_cause (state_of old book) (command_in book.works number) ≡ Some (refused_reply c.in-Err.refusal) =
     ap (turned_cause (state_of old book)) (sym named) ∙ sym (cause_known old book command c.need.result c.requires.agrees.base need) ∙ c.in-Err.ensures.cause in
     rw c.in-Err.ensures.unchanged
