@@ -1,5 +1,6 @@
 -- The forms of a script's lines: what the words of a line say.
 use Rattle.std.specs.Prelude.{ℕ, ◌-◌, ◌^◌, List, [], ◌∷◌, ◌&&◌, bytes_eq, codes, if◌then◌else◌, Option, Some, None, option_map}
+use Rattle.ct_word.specs.declared.limit.TheConstants.{MOST_BLOCKS, MOST_STEP, MOST_CDB}
 use Rattle.ct_word.specs.declared.names.Node.TheVariants.{A}
 use Rattle.ct_cdb.specs.declared.op.Attr2.TheVariants.{Simple}
 use Rattle.ct_script.specs.declared.script.Word.{Word}
@@ -11,7 +12,7 @@ use Rattle.ct_script.specs.Words.{number_in}
 abbrev pub lun_of : List (List ℕ) → Option Word
 lun_of (lun ∷ blocks ∷ count ∷ []) =
     if bytes_eq lun (codes "0") && bytes_eq blocks (codes "blocks")
-    then option_map (λ n. Lun (record { 0 = 0 }) n) (number_in 1 65536 count)
+    then option_map (λ n. Lun (record { 0 = 0 }) n) (number_in 1 MOST_BLOCKS count)
     else None
 lun_of _ = None
 
@@ -32,6 +33,10 @@ abbrev pub command_of : Option ℕ → Option ℕ → Option (List ℕ) → Opti
 command_of (Some init) (Some tag) (Some cdb) (Some out) = Some (Cmd (record { port = 0; init = init }) 0 (record { 0 = tag }) Simple cdb out)
 command_of _ _ _ _ = None
 
+-- a CDB has no more bytes than the most
+abbrev pub cdb_bytes_of : List ℕ → Option (List ℕ)
+cdb_bytes_of text = at_most MOST_CDB (bytes_of_text text)
+
 -- DATA may be missing, and there are then no bytes
 abbrev pub data_of : List (List ℕ) → Option (List ℕ)
 data_of [] = Some []
@@ -42,7 +47,7 @@ data_of _ = None
 abbrev pub cmd_of : List (List ℕ) → Option Word
 cmd_of (init ∷ port ∷ number ∷ tag ∷ attribute ∷ cdb ∷ out) =
     if bytes_eq port (codes "0") && bytes_eq number (codes "0") && bytes_eq attribute (codes "simple")
-    then command_of (number_in 0 15 init) (number_in 0 (2 ^ 32 - 1) tag) (at_most 32 (bytes_of_text cdb)) (data_of out)
+    then command_of (number_in 0 15 init) (number_in 0 (2 ^ 32 - 1) tag) (cdb_bytes_of cdb) (data_of out)
     else None
 cmd_of _ = None
 
@@ -53,7 +58,7 @@ step_by _ _ = None
 
 abbrev pub step_of : List (List ℕ) → Option Word
 step_of (lun ∷ number ∷ blocks ∷ []) =
-    if bytes_eq lun (codes "0") then step_by (number_in 0 (2 ^ 32 - 1) number) (number_in 1 65536 blocks) else None
+    if bytes_eq lun (codes "0") then step_by (number_in 0 (2 ^ 32 - 1) number) (number_in 1 MOST_STEP blocks) else None
 step_of _ = None
 
 -- `drain 0`

@@ -1,6 +1,7 @@
 -- What readers keep: of byte texts the bytes that they have so far, of words the DATA that may be too long.
 use Rattle.std.specs.Prelude.{ℕ, List, [], ◌≡◌, Bool, if◌then◌else◌, Option, Some, None, option_map, length, take, ◌+◌}
 use Rattle.std.specs.Borrow.{Bor}
+use Rattle.ct_word.specs.declared.limit.TheConstants.{MOST_DATA_OUT}
 use Rattle.ct_script.specs.declared.script.Word.{Word}
 use Rattle.ct_script.specs.declared.script.Word.TheVariants.{Lun, Port, Map, Cmd, Step, Drain, Sync}
 use Rattle.ct_script.specs.ByteText.{joined, bytes_of_text}
@@ -24,7 +25,7 @@ abbrev pub kept : Word → Word
 kept (Lun lun blocks) = Lun lun blocks
 kept (Port port node) = Port port node
 kept (Map n x lun) = Map n x lun
-kept (Cmd n x tag attr cdb out) = Cmd n x tag attr cdb (take 131073 out)
+kept (Cmd n x tag attr cdb out) = Cmd n x tag attr cdb (take (MOST_DATA_OUT + 1) out)
 kept (Step lun number blocks) = Step lun number blocks
 kept (Drain lun) = Drain lun
 kept Sync = Sync

@@ -1,13 +1,15 @@
 -- What a line needs of the lines before it.
 use Rattle.std.specs.Prelude.{◌≡◌, ◌≤◌, ℕ, take, drop, List, [], ◌∷◌, ◌++◌, ◌==◌, nat_lt, Bool, true, false, ◌&&◌, ◌||◌, not, length, sum_by, count_by, Result, Ok, Err}
 use Rattle.std.specs.List.{list_any, list_all, All}
+use Rattle.ct_word.specs.declared.limit.TheConstants.{MOST_BLOCKS, MOST_LINES, MOST_COMMANDS}
+use Rattle.ct_word.specs.declared.limit.TheConstants.{MOST_DATA_OUT, MOST_DATA_OUT_TOGETHER, MOST_OPERATIONS}
 use Rattle.ct_word.specs.Nexuses.{IsNexus, is_same_nexus}
 use Rattle.ct_word.specs.declared.names.LunNo.{LunNo}
 use Rattle.ct_word.specs.declared.names.Nexus.{Nexus}
 use Rattle.ct_cdb.specs.declared.op.Cdb.{Cdb}
 use Rattle.ct_cdb.specs.declared.op.CdbFault.{CdbFault}
 use Rattle.ct_cdb.specs.Forms.{cdb_of}
-use Rattle.ct_cdb.specs.Asked.{asked_of}
+use Rattle.ct_cdb.specs.Profiles.{asked_of}
 use Rattle.ct_script.specs.declared.script.Line.{Line}
 use Rattle.ct_script.specs.declared.script.Word.{Word}
 use Rattle.ct_script.specs.declared.script.Word.TheVariants.{Lun, Port, Map, Cmd, Step, Drain, Sync}
@@ -77,7 +79,7 @@ data_bytes line = word_data_bytes line.word
 
 -- DATA of one line that is more than a line may have
 abbrev pub is_long : Word → Bool
-is_long word = nat_lt 131072 (word_data_bytes word)
+is_long word = nat_lt MOST_DATA_OUT (word_data_bytes word)
 
 -- the block operations that a CDB asks for
 abbrev pub cdb_asked : Result Cdb CdbFault → ℕ
@@ -94,15 +96,18 @@ line_asked line = word_line_asked line.word
 
 -- lines pass a limit: on commands, on DATA of all of them, or on block operations
 abbrev pub is_over : List Line → Bool
-is_over lines = nat_lt 64 (count_by is_command lines) || nat_lt 134217728 (sum_by data_bytes lines) || nat_lt 262144 (sum_by line_asked lines)
+is_over lines =
+    nat_lt MOST_COMMANDS (count_by is_command lines)
+    || nat_lt MOST_DATA_OUT_TOGETHER (sum_by data_bytes lines)
+    || nat_lt MOST_OPERATIONS (sum_by line_asked lines)
 
 -- a line behind these passes a limit: on lines, on the DATA of one, or on what all of them add up to
 abbrev pub passes_limit : List Line → Line → Bool
-passes_limit earlier line = nat_lt 65536 line.no || is_long line.word || is_over (earlier ++ line ∷ [])
+passes_limit earlier line = nat_lt MOST_LINES line.no || is_long line.word || is_over (earlier ++ line ∷ [])
 
 -- numbers are in the ranges of their places: the blocks of a unit, a command's nexus, the block operations of a step
 abbrev pub IsInRange : Word → Type 0
-IsInRange (Lun lun blocks) = (1 ≤ blocks) × (blocks ≤ 65536)
+IsInRange (Lun lun blocks) = (1 ≤ blocks) × (blocks ≤ MOST_BLOCKS)
 IsInRange (Cmd n x tag attr cdb out) = IsNexus n
 IsInRange (Step lun number blocks) = 1 ≤ blocks
 IsInRange _ = Unit {0}

@@ -2,24 +2,22 @@
 
 ghost use Rattle.std.specs.Prelude.{◌≡◌, ◌-◌, ◌^◌, IfOk, IfSome, option_map, take, bytes_eq};
 ghost use Rattle.ct_script.specs.Rules.{IsInRange};
-ghost use Rattle.ct_script.specs.ByteText.{bytes_of_text, at_most};
 ghost use Rattle.ct_script.specs.Reading.{kept};
 ghost use Rattle.ct_script.specs.Words.{number_in};
-ghost use Rattle.ct_script.specs.Forms.{lun_of, port_of, map_of, cmd_of, command_of, data_of, step_of, drain_of, sync_of, word_of};
+ghost use Rattle.ct_script.specs.Forms.{word_of, lun_of, port_of, map_of, step_of, drain_of, sync_of};
+ghost use Rattle.ct_script.specs.Forms.{cmd_of, command_of, cdb_bytes_of, data_of};
 
 use crate::byte_text::read_bytes;
 use crate::numbers::number_in;
 use crate::parts::Parts;
 use crate::script::Word;
-use ct_cdb::Attr2;
+use ct_cdb::{Attr2, CdbBytes};
+use ct_word::limit::{MOST_BLOCKS, MOST_CDB, MOST_DATA_OUT, MOST_STEP};
 use ct_word::{Bytes, LunNo, Nexus, NoMemory, Node, Tag};
 use std::alloc::Global;
 
-/// The most bytes of a CDB.
-const MAX_CDB_BYTES: usize = 32;
-
 /// The most bytes of DATA that are kept: one more than a line may have.
-const KEPT_DATA_BYTES: usize = 131_073;
+const KEPT_DATA: usize = MOST_DATA_OUT as usize + 1;
 
 /// What the words of a line say, but of DATA that is longer than a line may have just one byte more than that. None where
 /// they are in no form.
@@ -62,7 +60,7 @@ fn lun_form(mut words: Parts<'_>) -> Option<Word>
     }
     Some(Word::Lun {
         lun: LunNo(0),
-        blocks: number_in(1, 65_536, count)?,
+        blocks: number_in(1, MOST_BLOCKS, count)?,
     })
 }
 
@@ -140,7 +138,11 @@ fn command(
     out: Parts<'_>,
 ) -> Result<Option<Word>, NoMemory>
     ensures in_range { IfOk result (λ word. IfSome word IsInRange) }
-    ensures word { IfOk result (λ word. word ≡ option_map kept (command_of (number_in 0 15 init.now) (number_in 0 (2 ^ 32 - 1) tag.now) (at_most 32 (bytes_of_text cdb.now)) (data_of out.entry))) }
+    ensures word { IfOk result (λ word. word ≡ option_map kept (command_of
+        (number_in 0 15 init.now)
+        (number_in 0 (2 ^ 32 - 1) tag.now)
+        (cdb_bytes_of cdb.now)
+        (data_of out.entry))) }
 {
     let Some(init) = number_in(0, 15, init) else {
         return Ok(None);
@@ -167,26 +169,26 @@ fn command(
     }))
 }
 
-fn read_cdb(alloc: Global, text: &[u8]) -> Result<Option<Bytes>, NoMemory>
-    ensures { IfOk result (λ found. found ≡ at_most 32 (bytes_of_text text.now)) }
+fn read_cdb(alloc: Global, text: &[u8]) -> Result<Option<CdbBytes>, NoMemory>
+    ensures { IfOk result (λ found. found ≡ cdb_bytes_of text.now) }
 {
-    let Some(cdb) = read_bytes(alloc, text, MAX_CDB_BYTES + 1)? else {
+    let Some(cdb) = read_bytes(alloc, text, MOST_CDB + 1)? else {
         return Ok(None);
     };
-    if cdb.len() > MAX_CDB_BYTES {
+    if cdb.len() > MOST_CDB {
         return Ok(None);
     }
-    Ok(Some(cdb))
+    Ok(Some(CdbBytes::new(cdb)))
 }
 
 fn read_data(alloc: Global, mut words: Parts<'_>) -> Result<Option<Bytes>, NoMemory>
-    ensures { IfOk result (λ found. found ≡ option_map (take 131073) (data_of words.entry)) }
+    ensures { IfOk result (λ found. found ≡ option_map (take KEPT_DATA) (data_of words.entry)) }
 {
     let Some(text) = words.next() else {
         return Ok(Some(Bytes::new(alloc)));
     };
     if words.is_empty() {
-        read_bytes(alloc, text, KEPT_DATA_BYTES)
+        read_bytes(alloc, text, KEPT_DATA)
     } else {
         Ok(None)
     }
@@ -206,7 +208,7 @@ fn step_form(mut words: Parts<'_>) -> Option<Word>
     Some(Word::Step {
         lun: LunNo(0),
         no: number_in(0, u32::MAX, number)?,
-        blocks: number_in(1, 65_536, blocks)?,
+        blocks: number_in(1, MOST_STEP, blocks)?,
     })
 }
 

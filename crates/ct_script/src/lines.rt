@@ -9,23 +9,11 @@ use crate::parts::Parts;
 use crate::rules::{acts, data_bytes, is_command, is_misnamed, line_asked};
 use crate::script::{Line, ParseError, Script, ScriptFault, What, Word};
 use ct_word::NoMemory;
+use ct_word::limit::{
+    MOST_COMMANDS, MOST_DATA_OUT, MOST_DATA_OUT_TOGETHER, MOST_LINES, MOST_OPERATIONS,
+};
 use std::alloc::Global;
 use std::marker::Model;
-
-/// The most lines of a script.
-const MAX_LINES: u32 = 65_536;
-
-/// The most commands of a script.
-const MAX_COMMANDS: u64 = 64;
-
-/// The most bytes of DATA of a line.
-const MAX_LINE_DATA_BYTES: u64 = 131_072;
-
-/// The most bytes of DATA of a script.
-const MAX_DATA_BYTES: u64 = 134_217_728;
-
-/// The most block operations that the commands of a script may ask for.
-const MAX_BLOCK_OPERATIONS: u64 = 262_144;
 
 /// The script that the bytes say, or the first line in fault.
 #[tactic(auto, unfolding(crate::specs::Scripts::script_of))]
@@ -61,7 +49,7 @@ fn last_line(draft: Draft, no: u32, text: &[u8]) -> Result<Script, ParseError>
 #[tactic(auto, unfolding(crate::specs::Scripts::line_of))]
 fn read_line(alloc: Global, draft: &Draft, no: u32, text: &[u8]) -> Result<Line, ParseError>
     ensures line { GivesLine no result (line_of draft.now no text.now) }
-    ensures number { OnOk result (no ≤ 65536) }
+    ensures number { OnOk result (no ≤ MOST_LINES) }
     ensures named { IfOk result (λ line. is_misnamed draft.now line.word ≡ false) }
     ensures in_range { IfOk result (λ line. IsInRange line.word) }
     ensures fits { IfOk result (λ line. is_over (draft.now ++ line ∷ []) ≡ false) }
@@ -85,7 +73,7 @@ fn fault_at(line: u32, what: What) -> ParseError
     ParseError::Fault(ScriptFault { line, what })
 }
 
-/// The lines so far and what they add up to, as contracts see it: the lines.
+/// The lines so far and what they add up to, as contracts see it: the lines. They pass no limit, which bounds each sum.
 #[derive(Drop)]
 struct Draft {
     lines: Vec<Line>,
@@ -133,11 +121,11 @@ impl Draft {
     fn passes_limit(&self, line: &Line) -> bool
         ensures { result ≡ passes_limit self.now line.now }
     {
-        line.no > MAX_LINES
-            || data_bytes(line) > MAX_LINE_DATA_BYTES
-            || self.commands + u64::from(is_command(line)) > MAX_COMMANDS
-            || self.bytes + data_bytes(line) > MAX_DATA_BYTES
-            || self.operations + u64::from(line_asked(line)) > MAX_BLOCK_OPERATIONS
+        line.no > MOST_LINES
+            || data_bytes(line) > MOST_DATA_OUT
+            || self.commands + u64::from(is_command(line)) > MOST_COMMANDS
+            || self.bytes + data_bytes(line) > MOST_DATA_OUT_TOGETHER
+            || line_asked(line) > MOST_OPERATIONS - self.operations
     }
 
     #[tactic(auto, using(crate::proofs::Names::set_up_acts, crate::proofs::Names::set_up_more))]
@@ -154,7 +142,7 @@ impl Draft {
         };
         let commands = self.commands + u64::from(is_command(&line));
         let bytes = self.bytes + data_bytes(&line);
-        let operations = self.operations + u64::from(line_asked(&line));
+        let operations = self.operations + line_asked(&line);
         self.lines.push(line)?;
         self.settings = settings;
         self.commands = commands;

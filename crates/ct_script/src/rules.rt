@@ -5,7 +5,7 @@ ghost use Rattle.std.specs.List.{list_any};
 ghost use Rattle.ct_script.specs.Rules.{declares_lun, declares_port, maps, is_command, acts, is_misnamed_by, data_bytes, line_asked};
 
 use crate::script::{Line, Word};
-use ct_cdb::{asked, decode};
+use ct_cdb::asked;
 use ct_word::{LunNo, Nexus};
 
 /// A line names something that is declared twice, behind a line that acts, or not at all. The earlier lines may be those
@@ -105,11 +105,11 @@ pub fn data_bytes(line: &Line) -> u64
 }
 
 /// The block operations that a line asks for.
-pub fn line_asked(line: &Line) -> u32
+pub fn line_asked(line: &Line) -> u64
     ensures { result ≡ line_asked line.now }
 {
     match &line.word {
-        Word::Cmd { cdb, .. } => match decode(cdb.as_slice()) {
+        Word::Cmd { cdb, .. } => match cdb.decoded() {
             Ok(cdb) => asked(&cdb.op),
             Err(_) => 0,
         },

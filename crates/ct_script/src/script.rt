@@ -3,7 +3,7 @@
 ghost use Rattle.std.specs.Prelude.{◌≡◌};
 ghost use Rattle.ct_script.specs.Rules.{IsWithin};
 
-use ct_cdb::Attr2;
+use ct_cdb::{Attr2, CdbBytes};
 use ct_word::{Bytes, LunNo, Nexus, NoMemory, Node, Tag};
 use std::marker::Model;
 
@@ -32,7 +32,7 @@ pub enum Word {
         x: u8,
         tag: Tag,
         attr: Attr2,
-        cdb: Bytes,
+        cdb: CdbBytes,
         out: Bytes,
     },
     /// A command moves on, by at most so many block operations.

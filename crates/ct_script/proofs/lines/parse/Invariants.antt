@@ -1,4 +1,5 @@
-use Rattle.std.proofs.Common.{◌≡◌, ◌≤◌, length}
+use Rattle.std.proofs.Common.{◌≡◌, ◌≤◌, ◌+◌, length}
+use Rattle.ct_word.specs.declared.limit.TheConstants.{MOST_LINES}
 use Rattle.ct_script.specs.Scripts.{lines_from, script_of}
 use Rattle.ct_script.proofs.lines.parse.Given as goal
 
@@ -6,7 +7,7 @@ use Rattle.ct_script.proofs.lines.parse.Given as goal
 abbrev pub invariant-loop-text : goal.invariant-loop-text
 invariant-loop-text l = record {
   same : lines_from l.draft l.no l.lines ≡ script_of l.bytes;
-  few : l.no ≤ 65537;
+  few : l.no ≤ MOST_LINES + 1;
 }
 
 abbrev pub decreases-loop-text : goal.decreases-loop-text
