@@ -1,6 +1,7 @@
 -- A pair as it is opened.
 use Rattle.std.proofs.Common.{◌≡◌, ℕ, ◌≤◌, List, [], replicate, length, refl, sym, ap, ◌∙◌, subst, arith}
 use Rattle.std.specs.List.{All}
+use Rattle.ct_word.specs.declared.limit.TheConstants.{MOST_BLOCKS}
 use Rattle.ct_word.specs.declared.names.Ha.{Ha}
 use Rattle.ct_book.specs.Journals.{BookState}
 use Rattle.ct_book.specs.Kept.{empty_book}
@@ -25,7 +26,7 @@ opened_replay o blocks faults single zeros =
     opened_state o.lun o.depth o.pool o.blocks blocks faults o.room zeros ∙ ap (λ (ha : Ha). opened (record o { ha = ha })) (sym single.ha)
 
 pub opened_pair : (o : Opening) (d : Desk) (p : BookState) (blocks : List (List ℕ)) (faults : ℕ) → IsSingle o → d ≡ opened_desk o.lun o.depth o.pool blocks faults → p ≡ empty_book o.room
-    → blocks ≡ replicate o.blocks (replicate 512 0) → length blocks ≤ 65536 → IsPair o d p
+    → blocks ≡ replicate o.blocks (replicate 512 0) → length blocks ≤ MOST_BLOCKS → IsPair o d p
 opened_pair o d p blocks faults single desk book zeros few =
     let room = opened_room o.lun o.depth o.pool blocks faults o.room in
     subst (λ (e : Desk). IsPair o e p) (sym desk) (subst (IsPair o (opened_desk o.lun o.depth o.pool blocks faults)) (sym book) (record {

@@ -14,6 +14,7 @@ use ct_book::{Book, Cmd, Work};
 use ct_lun::{Lun, Stepped};
 use ct_machine::{Act, Answer, Opening};
 use ct_medium::Backend;
+use ct_word::limit::MOST_BLOCKS;
 use ct_word::{CmdNo, Ha, LunNo, NoMemory, Node, Room};
 use std::alloc::Global;
 use std::marker::Model;
@@ -63,7 +64,7 @@ impl<B: Backend> Pair<B> {
         requires high { depth ≤ 256 }
         requires events { events_for room < 2 ^ 32 }
         requires some { 1 ≤ length (B.blocks medium) }
-        requires few { length (B.blocks medium) ≤ 65536 }
+        requires few { length (B.blocks medium) ≤ MOST_BLOCKS }
         requires zeros { B.blocks medium ≡ replicate (length (B.blocks medium)) (replicate 512 0) }
         requires unfailed { B.faults medium ≡ 0 }
         ensures opening { IfOk result (λ p. p.opening ≡ record {

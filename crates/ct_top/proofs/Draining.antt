@@ -12,6 +12,7 @@ use Rattle.ct_machine.specs.Laws.{is_void, ActsWrite, reserved_events}
 use Rattle.ct_pair.specs.Pairs.{PairState, Acts}
 use Rattle.std.specs.Prelude.{is_some}
 use Rattle.std.specs.List.{list_any}
+use Rattle.ct_word.specs.declared.limit.TheConstants.{MOST_STEP}
 use Rattle.ct_exec.specs.Controls.{ControlState, is_unrestricted}
 use Rattle.ct_machine.specs.declared.act.Act.{Act}
 use Rattle.ct_machine.specs.States.{Task, task_of}
@@ -33,7 +34,7 @@ pub drains_idle : (old new : PairState) (said : Answer) (from to : ℕ) → Acts
     Drains old.opening (MayFail from to) old.book.journal new.book.journal
 drains_idle old new said from to h e a b silent =
     let idles : (act_of (replay old.opening old.book.journal) next h.fault).answer ≡ answer.Idle = sym h.answer ∙ e in
-    let same : new.book.journal ≡ old.book.journal = h.journal ∙ ap (λ events. old.book.journal ++ events) (silent 65536 h.fault idles) ∙ append-nil old.book.journal in
+    let same : new.book.journal ≡ old.book.journal = h.journal ∙ ap (λ events. old.book.journal ++ events) (silent MOST_STEP h.fault idles) ∙ append-nil old.book.journal in
     subst (λ j. Drains old.opening (MayFail from to) old.book.journal j) (sym same) (idle old.book.journal h.fault (may_fail from old.desk.faults new.desk.faults to h.fault a b h.cause) idles)
 
 pub drains_more : (old new : PairState) (said : Answer) (from to : ℕ) (end : List Logged) → Acts old new next said → from ≤ old.desk.faults → new.desk.faults ≤ to →
@@ -55,7 +56,7 @@ drains_fewer old new said h busy does writes within = go (is_void (act_of (repla
     events = (act_of (replay old.opening old.book.journal) next h.fault).journal
 
     go : (t : Bool) → is_void (act_of (replay old.opening old.book.journal) next h.fault).answer ≡ t → reserved_events new.opening - length new.book.journal < reserved_events old.opening - length old.book.journal
-    go true e = absurd (busy (h.answer ∙ does 65536 h.fault e))
+    go true e = absurd (busy (h.answer ∙ does MOST_STEP h.fault e))
     go false e =
         let some = some_length events (writes next h.fault (omega arith) e) in
         let longer : length new.book.journal ≡ length old.book.journal + length events = ap length h.journal ∙ length-append old.book.journal events in
@@ -108,7 +109,7 @@ at_rest o may before after d never = go (replay o after).tasks refl
         let live : (is_some (task_of x.no (replay o after).tasks) || list_any (is_sent x.no) (replay o after).to_a) ≡ true =
         ap (λ ts. is_some (task_of x.no ts) || list_any (is_sent x.no) (replay o after).to_a) e
         ∙ ap (λ t. is_some (cond t (Some x) (task_of x.no xs)) || list_any (is_sent x.no) (replay o after).to_a) (eq-eqb x.no x.no refl) in
-        absurd (never x.no 65536 idles.0 live (omega arith) idles.1)
+        absurd (never x.no MOST_STEP idles.0 live (omega arith) idles.1)
 
 -- reordering is always restricted at this stage
 

@@ -3,27 +3,29 @@ use Rattle.std.proofs.Common.{◌≡◌, ℕ, zero, suc, ◌+◌, ◌≤◌, ◌
 use Rattle.std.specs.Prelude.{IfSome, sum_by, count_by, nat_lt}
 use Rattle.std.proofs.lemmas.Bool.{ltb-false}
 use Rattle.std.proofs.lemmas.List.Sums.{sum_by-cons}
-use Rattle.ct_cdb.specs.declared.op.Op.{Op}
-use Rattle.ct_cdb.specs.declared.op.Op.TheVariants.{Read10, Write10}
+use Rattle.ct_word.specs.declared.limit.TheConstants.{MOST_BLOCKS, MOST_COMMANDS, MOST_DATA_OUT_TOGETHER, MOST_OPERATIONS}
 use Rattle.ct_cdb.specs.declared.op.Cdb.{Cdb}
 use Rattle.ct_cdb.specs.declared.op.CdbFault.{CdbFault}
 use Rattle.ct_cdb.specs.Forms.{cdb_of}
-use Rattle.ct_cdb.specs.Asked.{asked_of}
-use Rattle.ct_cdb.specs.Performed.{is_performed}
-use Rattle.ct_plan.specs.Plans.{gets, puts, operations_of, plan_of}
+use Rattle.ct_cdb.specs.declared.profile.Profile.{Profile}
+use Rattle.ct_cdb.specs.Profiles.{profile_by, operations, is_performed}
+use Rattle.ct_cdb.proofs.Fitting.{few_operations}
+use Rattle.ct_plan.specs.Plans.{planned, plan_of}
+use Rattle.ct_plan.proofs.Ranged.{length-planned}
+use Rattle.ct_book.specs.Works.{profile_in}
 use Rattle.ct_book.specs.Kept.{events_for}
-use Rattle.ct_exec.specs.Executions.{plan_by, plan_in}
+use Rattle.ct_exec.specs.Executions.{plan_in}
 use Rattle.ct_script.specs.declared.script.Line.{Line}
 use Rattle.ct_script.specs.declared.script.Word.{Word}
 use Rattle.ct_script.specs.declared.script.Word.TheVariants.{Lun, Port, Map, Cmd, Step, Drain, Sync}
 use Rattle.ct_script.specs.Rules.{IsInRange, AreInRange, IsWithin, is_command, line_asked, word_line_asked, cdb_asked, data_bytes}
 use Rattle.ct_top.specs.Commands.{command_in, pieces_by, pieces_in, room_of, declared_blocks}
 
-pub blocks_in_range : (lines : List Line) → AreInRange lines → IfSome (declared_blocks lines) (λ blocks. (1 ≤ blocks) × (blocks ≤ 65536))
+pub blocks_in_range : (lines : List Line) → AreInRange lines → IfSome (declared_blocks lines) (λ blocks. (1 ≤ blocks) × (blocks ≤ MOST_BLOCKS))
 blocks_in_range [] h = tt
 blocks_in_range (line ∷ lines) h = go line.word (h 0 line (omega arith)) (blocks_in_range lines (λ k d within. h (suc k) d (omega (arith, within))))
   where
-    go : (word : Word) → IsInRange word → IfSome (declared_blocks lines) (λ blocks. (1 ≤ blocks) × (blocks ≤ 65536)) → IfSome (declared_blocks (record { no = line.no; word = word } ∷ lines)) (λ blocks. (1 ≤ blocks) × (blocks ≤ 65536))
+    go : (word : Word) → IsInRange word → IfSome (declared_blocks lines) (λ blocks. (1 ≤ blocks) × (blocks ≤ MOST_BLOCKS)) → IfSome (declared_blocks (record { no = line.no; word = word } ∷ lines)) (λ blocks. (1 ≤ blocks) × (blocks ≤ MOST_BLOCKS))
     go (Lun lun blocks) k rest = k
     go (Port port node) k rest = rest
     go (Map n x lun) k rest = rest
@@ -34,36 +36,34 @@ blocks_in_range (line ∷ lines) h = go line.word (h 0 line (omega arith)) (bloc
 
 -- a command plans at most as many block operations as it asks for
 
-length-gets : (lba count : ℕ) → length (gets lba count) ≡ count
-length-gets lba zero = refl
-length-gets lba (suc count) = ap suc (length-gets (lba + 1) count)
-
-length-puts : (lba place count : ℕ) → length (puts lba place count) ≡ count
-length-puts lba place zero = refl
-length-puts lba place (suc count) = ap suc (length-puts (lba + 1) (place + 1) count)
-
-plan_asked : (out blocks : ℕ) (op : Op) → length (plan_of out blocks op) ≤ asked_of op
+pub length-plan_of : (out blocks : ℕ) (profile : Profile) → length (plan_of out blocks profile) ≡ cond (is_performed out blocks profile) (operations profile) 0
 unfolding plan_of
-plan_asked out blocks op = go (is_performed out blocks op) op
+length-plan_of out blocks profile = go (is_performed out blocks profile)
   where
-    go : (t : Bool) (op : Op) → length (cond t (operations_of op) []) ≤ asked_of op
-    go false op = omega arith
-    go true (Read10 lba count) = let e = length-gets lba count in omega (arith, e)
-    go true (Write10 lba count) = let e = length-puts lba 0 count in omega (arith, e)
+    go : (t : Bool) → length (cond t (planned profile.phases profile.ranges) []) ≡ cond t (operations profile) 0
+    go true = length-planned profile.phases profile.ranges
+    go false = refl
+
+plan_asked : (out blocks : ℕ) (profile : Profile) → length (plan_of out blocks profile) ≤ operations profile
+plan_asked out blocks profile = go (is_performed out blocks profile) (length-plan_of out blocks profile)
+  where
+    go : (t : Bool) → length (plan_of out blocks profile) ≡ cond t (operations profile) 0 → length (plan_of out blocks profile) ≤ operations profile
+    go true e = omega (arith, e)
+    go false e = omega (arith, e)
 
 pieces_asked : (blocks : ℕ) (line : Line) → pieces_in blocks line ≤ line_asked line
-unfolding plan_in
+unfolding plan_in profile_in
 pieces_asked blocks line = go line.word
   where
-    by : (out : ℕ) (r : Result Cdb CdbFault) → length (plan_by blocks out r) ≤ cdb_asked r
-    by out (Ok cdb) = plan_asked out blocks cdb.op
+    by : (out : List ℕ) (r : Result Cdb CdbFault) → operations (profile_by r out blocks) ≤ cdb_asked r
+    by out (Ok cdb) = few_operations cdb.op out blocks
     by out (Err fault) = omega arith
 
     go : (word : Word) → pieces_by blocks (command_in line.no word) ≤ word_line_asked word
     go (Lun lun n) = omega arith
     go (Port port node) = omega arith
     go (Map n x lun) = omega arith
-    go (Cmd n x tag attr cdb out) = by (length out) (cdb_of cdb)
+    go (Cmd n x tag attr cdb out) = omega (arith, plan_asked (length out) blocks (profile_by (cdb_of cdb) out blocks), by out (cdb_of cdb))
     go (Step lun number n) = omega arith
     go (Drain lun) = omega arith
     go Sync = omega arith
@@ -79,13 +79,13 @@ all_asked blocks (line ∷ lines) =
 
 -- what a script takes is bounded
 pub record Few (blocks : ℕ) (lines : List Line) : Type 0 where
-  pub commands : count_by is_command lines ≤ 64
-  pub pieces : sum_by (pieces_in blocks) lines ≤ 262144
+  pub commands : count_by is_command lines ≤ MOST_COMMANDS
+  pub pieces : sum_by (pieces_in blocks) lines ≤ MOST_OPERATIONS
 
 pub are_few : (blocks : ℕ) (lines : List Line) → IsWithin lines → Few blocks lines
 are_few blocks lines h = record {
-  commands = ltb-false 64 (count_by is_command lines) (first (nat_lt 64 (count_by is_command lines)) (nat_lt 134217728 (sum_by data_bytes lines)) (nat_lt 262144 (sum_by line_asked lines)) h.limits);
-  pieces = let a = all_asked blocks lines in let b : sum_by line_asked lines ≤ 262144 = ltb-false 262144 (sum_by line_asked lines) (last (nat_lt 64 (count_by is_command lines)) (nat_lt 134217728 (sum_by data_bytes lines)) (nat_lt 262144 (sum_by line_asked lines)) h.limits) in omega (arith, a, b);
+  commands = ltb-false MOST_COMMANDS (count_by is_command lines) (first (nat_lt MOST_COMMANDS (count_by is_command lines)) (nat_lt MOST_DATA_OUT_TOGETHER (sum_by data_bytes lines)) (nat_lt MOST_OPERATIONS (sum_by line_asked lines)) h.limits);
+  pieces = let a = all_asked blocks lines in let b : sum_by line_asked lines ≤ MOST_OPERATIONS = ltb-false MOST_OPERATIONS (sum_by line_asked lines) (last (nat_lt MOST_COMMANDS (count_by is_command lines)) (nat_lt MOST_DATA_OUT_TOGETHER (sum_by data_bytes lines)) (nat_lt MOST_OPERATIONS (sum_by line_asked lines)) h.limits) in omega (arith, a, b);
 }
   where
     first : (a b c : Bool) → (a || b || c) ≡ false → a ≡ false

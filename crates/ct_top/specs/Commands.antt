@@ -1,6 +1,7 @@
 -- What the lines of a script bring to the logical unit that they declare, and with what it is opened.
 use Rattle.std.specs.Prelude.{ℕ, List, [], ◌∷◌, length, sum_by, count_by, Option, Some, None, option_map}
 use Rattle.std.specs.List.{filter_map}
+use Rattle.ct_word.specs.declared.limit.TheConstants.{DEPTH, POOL}
 use Rattle.ct_word.specs.declared.names.Ha.TheVariants as ha
 use Rattle.ct_word.specs.declared.names.Room.{Room}
 use Rattle.ct_book.specs.declared.work.Command.{Command}
@@ -34,9 +35,9 @@ pieces_in blocks line = pieces_by blocks (command_in line.no line.word)
 abbrev pub room_of : ℕ → List Line → Room
 room_of blocks lines = record { commands = count_by is_command lines; functions = 0; pieces = sum_by (pieces_in blocks) lines }
 
--- a unit of one node, with 64 commands at most and 16,384 blocks for what they need meanwhile
+-- a unit of one node, whose task set and pool are of the usual size
 abbrev pub opening_of : ℕ → List Line → Opening
-opening_of blocks lines = record { ha = ha.None; lun = record { 0 = 0 }; blocks = blocks; depth = 64; pool = 16384; room = room_of blocks lines }
+opening_of blocks lines = record { ha = ha.None; lun = record { 0 = 0 }; blocks = blocks; depth = DEPTH; pool = POOL; room = room_of blocks lines }
 
 -- the blocks of the unit that the lines declare, if they declare one
 abbrev pub first_of : Option ℕ → Option ℕ → Option ℕ

@@ -1,5 +1,6 @@
 -- What `play` does: the acts that the lines of a script name, in order, and all that can still be done at the end.
 use Rattle.std.specs.Prelude.{◌≡◌, ◌<◌, ℕ, IsSome, List, [], ◌∷◌, ◌++◌, Option, Some, None}
+use Rattle.ct_word.specs.declared.limit.TheConstants.{MOST_STEP}
 use Rattle.ct_word.specs.declared.names.Node.TheVariants.{A}
 use Rattle.ct_book.specs.declared.work.Command.{Command}
 use Rattle.ct_book.specs.declared.work.Work.TheVariants as work
@@ -25,9 +26,9 @@ pub record Acted (o : Opening) (may : Option ℕ → Type 0) (done : Act) (befor
   pub allowed : may fault
   pub written : after ≡ before ++ (act_of (replay o before) done fault).journal
 
--- the next thing to be done, by at most 65,536 block operations
+-- the next thing to be done, by as many block operations as one step makes at most
 abbrev pub next : Act
-next = act.Next 65536
+next = act.Next MOST_STEP
 
 -- the next thing is done, again and again, until nothing can be done
 pub data Drains (o : Opening) (may : Option ℕ → Type 0) : List Logged → List Logged → Type 0 where

@@ -1,6 +1,7 @@
 //! What `play` does with one logical unit.
 
 ghost use Rattle.std.specs.Prelude.{◌≡◌, ◌≤◌, ◌<◌, [], length, replicate, IfOk, OnOk};
+ghost use Rattle.ct_plan.specs.Plans.{plan_of};
 ghost use Rattle.ct_book.specs.Journals.{works_in};
 ghost use Rattle.ct_machine.specs.Runs.{replay, IsRun};
 ghost use Rattle.ct_script.specs.Rules.{IsWithin, IsInRange, line_asked};
@@ -8,26 +9,17 @@ ghost use Rattle.ct_top.specs.Commands.{commands_of, pieces_in, room_of, opening
 ghost use Rattle.ct_top.specs.Played.{MayFail, Drains, ByLine, ByLines, IsPlayed};
 
 use ct_book::{Cmd, Work};
-use ct_cdb::decode;
+use ct_cdb::Profile;
 use ct_law::{
     acts_write, arrivals_alone_take_room, idle_is_silent, next_does_something, runs_fit_their_room,
     works_are_kept,
 };
 use ct_medium::Backend;
 use ct_pair::{Act, Answer, End, Pair};
-use ct_plan::Plan;
 use ct_script::{Line, Script, Word};
+use ct_word::limit::{DEPTH, MOST_BLOCKS, MOST_STEP, POOL};
 use ct_word::{CmdNo, Ha, LunNo, NoMemory, Node, Room};
 use std::alloc::Global;
-
-/// The most commands that a unit holds at once.
-const DEPTH: u32 = 64;
-
-/// The blocks of a unit's pool.
-const POOL: u32 = 16_384;
-
-/// The most block operations of an act that does what is next.
-const NEXT: u32 = 65_536;
 
 /// The number under which a nexus sees the unit, as a set of bits.
 const VISIBLE: u16 = 1;
@@ -36,7 +28,7 @@ const VISIBLE: u16 = 1;
 /// out, which can be before an act alone.
 pub fn play_on<B: Backend>(alloc: Global, script: Script, medium: B) -> Result<End<B>, NoMemory>
     requires some { 1 ≤ length (B.blocks medium) }
-    requires few { length (B.blocks medium) ≤ 65536 }
+    requires few { length (B.blocks medium) ≤ MOST_BLOCKS }
     requires zeros { B.blocks medium ≡ replicate (length (B.blocks medium)) (replicate 512 0) }
     requires unfailed { B.faults medium ≡ 0 }
     ensures lun { IfOk result (λ end. end.lun ≡ record { 0 = 0 }) }
@@ -57,12 +49,11 @@ pub fn play_on<B: Backend>(alloc: Global, script: Script, medium: B) -> Result<E
 
 // Exactly the room that the commands of these lines take, on a disk of so many blocks.
 fn room_of(lines: &[Line], blocks: u32) -> Room
-    requires within { IsWithin lines.now }
-    requires few { blocks ≤ 65536 }
+    requires { IsWithin lines.now }
     ensures { result ≡ room_of blocks lines.now }
 {
     let mut commands = 0;
-    let mut pieces = 0;
+    let mut pieces = 0u64;
     for line in lines {
         if let Word::Cmd { .. } = &line.word {
             commands += 1;
@@ -72,22 +63,32 @@ fn room_of(lines: &[Line], blocks: u32) -> Room
     Room {
         commands,
         functions: 0,
-        pieces,
+        pieces: pieces as u32,
     }
 }
 
 // How many block operations a line's command plans.
-#[tactic(auto, unfolding(ct_exec::specs::Executions::plan_in))]
-fn pieces_in(line: &Line, blocks: u32) -> u32
-    requires { blocks ≤ 65536 }
+#[tactic(auto, unfolding(ct_exec::specs::Executions::plan_in, ct_book::specs::Works::profile_in))]
+fn pieces_in(line: &Line, blocks: u32) -> u64
     ensures { result ≡ pieces_in blocks line.now }
 {
     match &line.word {
-        Word::Cmd { cdb, out, .. } => match decode(cdb.as_slice()) {
-            Ok(cdb) => Plan::of(&cdb.op, out.as_slice(), blocks).length(),
-            Err(_) => 0,
-        },
+        Word::Cmd { cdb, out, .. } => {
+            let profile = Profile::by(cdb.decoded(), out.as_slice(), blocks);
+            planned(&profile, out.len(), blocks)
+        }
         _ => 0,
+    }
+}
+
+// How many block operations the plan of a row has, with so many bytes of data-out.
+fn planned(profile: &Profile, out: usize, blocks: u32) -> u64
+    ensures { result ≡ length (plan_of out blocks profile.now) }
+{
+    if profile.is_performed(out, blocks) {
+        profile.operations()
+    } else {
+        0
     }
 }
 
@@ -124,7 +125,7 @@ fn play_line<B: Backend>(alloc: Global, pair: &mut Pair<B>, line: Line) -> Resul
             out,
             ..
         } => {
-            let command = Cmd::new(alloc, no, n, VISIBLE, tag, attr, cdb.as_slice(), out)?;
+            let command = Cmd::new(alloc, no, n, VISIBLE, tag, attr, cdb, out)?;
             pair.act(Act::Arrive(Node::A, Work::Cmd(command)));
         }
         Word::Step { no, blocks, .. } => {
@@ -147,7 +148,7 @@ fn drain<B: Backend>(pair: &mut Pair<B>)
         next_does_something();
         idle_is_silent();
         acts_write();
-        if let Answer::Idle = pair.act(Act::Next(NEXT)) {
+        if let Answer::Idle = pair.act(Act::Next(MOST_STEP)) {
             return;
         }
         pair.journal_is_a_run();
