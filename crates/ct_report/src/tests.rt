@@ -4,7 +4,7 @@ ghost use Rattle.ct_book.specs.Kept.{IsCommandNo, IsFunctionNo, IsWorkNo, IsReas
 
 use crate::{push_byte_text, push_disk, push_unit};
 use ct_book::{Book, Cmd, Event, Kind2, Why, Work};
-use ct_cdb::Attr2;
+use ct_cdb::{Attr2, CdbBytes};
 use ct_medium::{Backend, Ram};
 use ct_sense::{Reply, Sense, Status, key};
 use ct_tmf::{Ask, Function, Outcome};
@@ -29,7 +29,7 @@ const MISCOMPARE: Sense = Sense {
 
 // The number that a command gets, or 0 where it is handed back.
 fn arrive(alloc: Global, book: &mut Book, node: Node, line: u32) -> Result<CmdNo, Fail> {
-    let cdb = b"\0\0\0\0\0\0";
+    let cdb = CdbBytes::new(Bytes::from_vec([0; 6].to_vec(alloc)?));
     let out = Bytes::new(alloc);
     let cmd = Cmd::new(alloc, line, NEXUS, 1, Tag(1), Attr2::Simple, cdb, out)?;
     Ok(add(book, node, Work::Cmd(cmd)))
