@@ -1,12 +1,9 @@
-ghost use Rattle.std.specs.Prelude.{◌≡◌, is_none, true, false};
-ghost use Rattle.std.specs.Bool.{OnTrue, OnFalse};
-
 use super::*;
 use crate::test_acts::{NEXUS, Said, arrive, next, plain, step};
 use ct_book::{Book, Event, Why, Work};
-use ct_medium::{Backend, Ram};
+use ct_medium::{Backend, FaultyRam, Ram};
 use ct_tmf::{Ask, Function};
-use ct_word::{Block, CmdNo, Failed, Ha, LunNo, Node, Room};
+use ct_word::{CmdNo, Ha, LunNo, Node, Room};
 use std::alloc::Global;
 use std::test::Fail;
 
@@ -131,58 +128,6 @@ fn overlapping_writes_go_one_behind_another(rt: HostRuntime) -> Result<(), Fail>
     Ok(())
 }
 
-// A medium that fails once, behind so many calls.
-#[derive(Drop)]
-struct FaultyRam {
-    ram: Ram,
-    left: Option<u32>,
-}
-
-// Counts a call, and tells whether it fails.
-fn fails(left: &mut Option<u32>) -> bool
-    ensures failed { OnTrue result (is_none left.old ≡ false) }
-    ensures then { OnTrue result (is_none left.new ≡ true) }
-    ensures other { OnFalse result (is_none left.new ≡ is_none left.old) }
-{
-    match *left {
-        Some(0) => {
-            *left = None;
-            true
-        }
-        Some(calls) => {
-            *left = Some(calls - 1);
-            false
-        }
-        None => false,
-    }
-}
-
-impl Backend for FaultyRam {
-    ghost use Rattle.std.specs.Prelude.{is_none, cond};
-
-    ghost blocks = { λ f. f.ram };
-
-    ghost faults = { λ f. cond (is_none f.left) 1 0 };
-
-    fn len(&self) -> u32 {
-        self.ram.len()
-    }
-
-    fn get(&mut self, lba: u32, into: &mut [u8; 512]) -> Result<(), Failed> {
-        if fails(&mut self.left) {
-            return Err(Failed);
-        }
-        self.ram.get(lba, into)
-    }
-
-    fn swap(&mut self, lba: u32, block: &mut Block) -> Result<(), Failed> {
-        if fails(&mut self.left) {
-            return Err(Failed);
-        }
-        self.ram.swap(lba, block)
-    }
-}
-
 // The medium cut the second write behind its first block.
 fn has_cut(book: &Book) -> bool {
     let cut = Event::Cut {
@@ -203,10 +148,7 @@ fn has_cut(book: &Book) -> bool {
 fn a_fault_of_the_medium_cuts(rt: HostRuntime) -> Result<(), Fail> {
     let alloc = rt.alloc();
     // it fails at the second put of the second write
-    let medium = FaultyRam {
-        ram: Ram::open(alloc, 8)?,
-        left: Some(3),
-    };
+    let medium = FaultyRam::open(alloc, 8, [3].to_vec(alloc)?)?;
     let mut pair = Pair::open(alloc, Ha::None, LunNo(0), 3, 4, ROOM, medium)?;
     let (overlapped, read, data) = overlap_and_read(alloc, &mut pair, READ_TWO)?;
     let cut = has_cut(pair.book());
