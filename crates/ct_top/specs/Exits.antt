@@ -2,11 +2,12 @@
 use Rattle.std.specs.Prelude.{ℕ, List, Option, Err, ⊤}
 use Rattle.ct_io.specs.declared.whole.TakeError.{TakeError}
 use Rattle.ct_io.specs.declared.whole.TakeError.TheVariants as takes
-use Rattle.ct_io.specs.Causes.{Rose}
+use Rattle.ct_word.specs.declared.limit.TheConstants.{MOST_SCRIPT}
+use Rattle.ct_word.specs.Causes.{Rose, end_of_u64}
 use Rattle.ct_io.specs.Streams.{IsLongerThan}
 use Rattle.ct_script.specs.declared.script.ParseError.{ParseError}
 use Rattle.ct_script.specs.declared.script.ParseError.TheVariants as parses
-use Rattle.ct_top.specs.Served.{WasRead, most_bytes}
+use Rattle.ct_top.specs.Served.{WasRead}
 use Rattle.ct_script.specs.declared.script.ScriptFault.{ScriptFault}
 use Rattle.ct_top.specs.declared.served.Exit.{Exit}
 use Rattle.ct_top.specs.declared.served.Exit.TheVariants as exits
@@ -44,7 +45,7 @@ exit_of_parse parses.NoMemory = exits.Memory
 -- why a source of type S gives no script: each answer with its cause
 abbrev pub IsRefusal : {S : Type 0} → (S → Option (List ℕ)) → (S → ℕ) → S → S → Exit → Type 0
 IsRefusal left faults old new (exits.Script fault) = WasRead (left old) (left new) (Err fault)
-IsRefusal left faults old new exits.TooLong = IsLongerThan most_bytes (left old)
-IsRefusal left faults old new exits.Read = Rose (faults old) (faults new)
+IsRefusal left faults old new exits.TooLong = IsLongerThan MOST_SCRIPT (left old)
+IsRefusal left faults old new exits.Read = Rose end_of_u64 (faults old) (faults new)
 IsRefusal left faults old new exits.Memory = ⊤
 IsRefusal left faults old new _ = ⊥

@@ -1,7 +1,8 @@
 -- What the top call answers, and what it leaves.
 use Rattle.std.specs.Prelude.{◌≡◌, ℕ, ◌<◌, ◌≤◌, List, [], ◌∷◌, length, take, bytes_eq, codes, if◌then◌else◌, Option, Some, None, Result, Ok}
 use Rattle.std.specs.Io.KnownBytes.{Appends}
-use Rattle.ct_io.specs.Causes.{Rose}
+use Rattle.ct_word.specs.declared.limit.TheConstants.{MOST_SCRIPT}
+use Rattle.ct_word.specs.Causes.{Rose, end_of_u64}
 use Rattle.ct_io.specs.Streams.{GivesAll}
 use Rattle.ct_book.specs.Journals.{works_in}
 use Rattle.ct_machine.specs.Runs.{replay, IsRun}
@@ -22,15 +23,11 @@ abbrev pub command_of : List (List ℕ) → Option Command
 command_of (word ∷ []) = if bytes_eq word (codes "play") then Some Play else None
 command_of _ = None
 
--- the most bytes of a script
-abbrev pub most_bytes : ℕ
-most_bytes = 8388608
-
 -- a source was read to its end, and its bytes say this
 pub record WasRead (old new : Option (List ℕ)) (says : Result (List Line) ScriptFault) : Type 0 where
   pub bytes : List ℕ
   pub all : GivesAll old new bytes
-  pub within : length bytes ≤ most_bytes
+  pub within : length bytes ≤ MOST_SCRIPT
   pub meaning : script_of bytes ≡ says
 
 -- no operation fails on a disk in memory
@@ -81,7 +78,7 @@ pub record IsPlayable (words : List (List ℕ)) (left : Option (List ℕ)) (sour
   pub lines : List Line
   pub play : command_of words ≡ Some Play
   pub told : left ≡ Some bytes
-  pub short : length bytes ≤ most_bytes
+  pub short : length bytes ≤ MOST_SCRIPT
   pub script : script_of bytes ≡ Ok lines
-  pub no_read_fault : ¬ (Rose source_before source_now)
-  pub no_write_fault : ¬ (Rose sink_before sink_now)
+  pub no_read_fault : ¬ (Rose end_of_u64 source_before source_now)
+  pub no_write_fault : ¬ (Rose end_of_u64 sink_before sink_now)

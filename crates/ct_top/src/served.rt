@@ -2,12 +2,12 @@
 
 ghost use Rattle.std.specs.Prelude.{◌≡◌, ◌≢◌, ◌<◌, ◌≤◌, ◌↔◌, ◌⊎◌, [], None, length, take, map, string_bytes, IfOk, IfErr, IfSome, Ok, Err};
 ghost use Rattle.std.specs.Io.KnownBytes.{Appends};
-ghost use Rattle.ct_io.specs.Causes.{Rose};
+ghost use Rattle.ct_word.specs.Causes.{Rose, end_of_u64};
 ghost use Rattle.ct_io.specs.Streams.{IsLongerThan};
 ghost use Rattle.ct_top.specs.Exits.{IfScript, IsWritten, IsRefusal, status_of};
 ghost use Rattle.ct_top.specs.Commands.{declared_blocks};
 ghost use Rattle.ct_top.specs.Report.{report_text};
-ghost use Rattle.ct_top.specs.Served.{command_of, most_bytes, WasRead, AreEnds, IsEnd, IsReported, IsCutShort, IsPlayable};
+ghost use Rattle.ct_top.specs.Served.{command_of, WasRead, AreEnds, IsEnd, IsReported, IsCutShort, IsPlayable};
 
 use crate::command::{Command, read_command};
 use crate::played::play_on;
@@ -18,10 +18,8 @@ use ct_medium::Ram;
 use ct_pair::End;
 use ct_script::{Line, ParseError, Script, ScriptFault, Word, parse};
 use ct_word::NoMemory;
+use ct_word::limit::{MOST_BLOCKS, MOST_SCRIPT};
 use std::alloc::Global;
-
-/// The most bytes of a script.
-const MAX_SCRIPT_BYTES: usize = 8_388_608;
 
 /// How a call ended.
 #[derive(Clone, Copy, Debug, PartialEq, Eq)]
@@ -82,12 +80,12 @@ pub fn target_one<S: Source, K: Sink>(
     ensures unread { result.exit ≡ Exit.Usage → source.new ≡ source.old }
 
     ensures script { IfScript result.exit (λ fault. WasRead (S.left source.old) (S.left source.new) (Err fault)) }
-    ensures too_long { result.exit ≡ Exit.TooLong → IsLongerThan most_bytes (S.left source.old) }
-    ensures read { result.exit ≡ Exit.Read → Rose (S.faults source.old) (S.faults source.new) }
+    ensures too_long { result.exit ≡ Exit.TooLong → IsLongerThan MOST_SCRIPT (S.left source.old) }
+    ensures read { result.exit ≡ Exit.Read → Rose end_of_u64 (S.faults source.old) (S.faults source.new) }
 
     ensures write { result.exit ≡ Exit.Write →
         IsCutShort (S.left source.old) (S.left source.new) (K.held sink.old) (K.held sink.new) result.sent result.ends.items }
-    ensures write_fault { result.exit ≡ Exit.Write → Rose (K.faults sink.old) (K.faults sink.new) }
+    ensures write_fault { result.exit ≡ Exit.Write → Rose end_of_u64 (K.faults sink.old) (K.faults sink.new) }
     ensures unwritten { IsWritten result.exit ⊎ ((sink.new ≡ sink.old) × (result.sent ≡ 0) × (result.ends.items ≡ [])) }
 
     // Want of memory is the one free answer.
@@ -118,11 +116,11 @@ fn play<S: Source, K: Sink>(alloc: Global, source: &mut S, sink: &mut K) -> Serv
         IsReported (S.left source.old) (S.left source.new) (K.held sink.old) (K.held sink.new) result.sent result.ends.items }
     ensures no_usage { result.exit ≢ Exit.Usage }
     ensures script { IfScript result.exit (λ fault. WasRead (S.left source.old) (S.left source.new) (Err fault)) }
-    ensures too_long { result.exit ≡ Exit.TooLong → IsLongerThan most_bytes (S.left source.old) }
-    ensures read { result.exit ≡ Exit.Read → Rose (S.faults source.old) (S.faults source.new) }
+    ensures too_long { result.exit ≡ Exit.TooLong → IsLongerThan MOST_SCRIPT (S.left source.old) }
+    ensures read { result.exit ≡ Exit.Read → Rose end_of_u64 (S.faults source.old) (S.faults source.new) }
     ensures write { result.exit ≡ Exit.Write →
         IsCutShort (S.left source.old) (S.left source.new) (K.held sink.old) (K.held sink.new) result.sent result.ends.items }
-    ensures write_fault { result.exit ≡ Exit.Write → Rose (K.faults sink.old) (K.faults sink.new) }
+    ensures write_fault { result.exit ≡ Exit.Write → Rose end_of_u64 (K.faults sink.old) (K.faults sink.new) }
     ensures unwritten { IsWritten result.exit ⊎ ((sink.new ≡ sink.old) × (result.sent ≡ 0) × (result.ends.items ≡ [])) }
 {
     match read_script(alloc, source) {
@@ -180,7 +178,7 @@ fn play_unit(alloc: Global, script: Script, blocks: u32) -> Result<UnitEnd, NoMe
 fn report_ends<K: Sink>(alloc: Global, ends: Vec<UnitEnd>, sink: &mut K) -> Served
     ensures done { result.exit ≡ Exit.Done → Appends (K.held sink.old) (K.held sink.new) (report_text ends.items) × (result.sent ≡ length (report_text ends.items)) × (result.ends.items ≡ ends.items) }
     ensures write { result.exit ≡ Exit.Write → Appends (K.held sink.old) (K.held sink.new) (take result.sent (report_text ends.items)) × (result.sent < length (report_text ends.items)) × (result.ends.items ≡ ends.items) }
-    ensures write_fault { result.exit ≡ Exit.Write → Rose (K.faults sink.old) (K.faults sink.new) }
+    ensures write_fault { result.exit ≡ Exit.Write → Rose end_of_u64 (K.faults sink.old) (K.faults sink.new) }
     ensures exits { IsWritten result.exit ⊎ (result.exit ≡ Exit.Memory) }
     ensures unwritten { IsWritten result.exit ⊎ ((sink.new ≡ sink.old) × (result.sent ≡ 0) × (result.ends.items ≡ [])) }
 {
@@ -195,14 +193,14 @@ fn read_script<S: Source>(alloc: Global, source: &mut S) -> Result<Script, Exit>
     ensures script { IfOk result (λ script. WasRead (S.left source.old) (S.left source.new) (Ok script)) }
     ensures refusal { IfErr result (IsRefusal S.left S.faults source.old source.new) }
 {
-    let bytes = take_all(alloc, source, MAX_SCRIPT_BYTES)?;
+    let bytes = take_all(alloc, source, MOST_SCRIPT)?;
     Ok(parse(alloc, bytes.as_slice())?)
 }
 
 fn write_text<K: Sink>(sink: &mut K, text: &[u8], ends: Vec<UnitEnd>) -> Served
     ensures done { result.exit ≡ Exit.Done → Appends (K.held sink.old) (K.held sink.new) text.now × (result.sent ≡ length text.now) × (result.ends.items ≡ ends.items) }
     ensures write { result.exit ≡ Exit.Write → Appends (K.held sink.old) (K.held sink.new) (take result.sent text.now) × (result.sent < length text.now) × (result.ends.items ≡ ends.items) }
-    ensures write_fault { result.exit ≡ Exit.Write → Rose (K.faults sink.old) (K.faults sink.new) }
+    ensures write_fault { result.exit ≡ Exit.Write → Rose end_of_u64 (K.faults sink.old) (K.faults sink.new) }
     ensures written { IsWritten result.exit }
 {
     match put_all(sink, text) {
