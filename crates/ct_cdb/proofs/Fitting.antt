@@ -8,19 +8,23 @@ use Rattle.ct_cdb.specs.Profiles.{profile_of, profile_by, undecoded, operations,
 
 -- the last clause is tried for each command that has none
 pub row_fits : (op : Op) (out : List ℕ) (blocks : ℕ) → Fits (profile_of op out blocks)
-row_fits (Read form lba count) out blocks = record { indexed = refl; covered = omega arith; buffered = λ some. omega arith; roomy = omega arith }
-row_fits _ out blocks = record { indexed = refl; covered = omega arith; buffered = λ some. omega arith; roomy = omega arith }
+row_fits (Read form lba count) out blocks =
+    record { indexed = refl; covered = omega arith; buffered = λ some. omega arith; roomy = omega arith }
+row_fits _ out blocks =
+    record { indexed = refl; covered = omega arith; buffered = λ some. omega arith; roomy = omega arith }
 
 pub decoded_fits : (decoded : Result Cdb CdbFault) (out : List ℕ) (blocks : ℕ) → Fits (profile_by decoded out blocks)
 decoded_fits (Ok cdb) out blocks = row_fits cdb.op out blocks
-decoded_fits (Err fault) out blocks = record { indexed = refl; covered = omega arith; buffered = λ some. omega arith; roomy = omega arith }
+decoded_fits (Err fault) out blocks =
+    record { indexed = refl; covered = omega arith; buffered = λ some. omega arith; roomy = omega arith }
 
 same_room : (op : Op) (out : List ℕ) (blocks : ℕ) → (profile_of op out blocks).data_in ≡ (profile_of op [] 0).data_in
 same_room (Read form lba count) out blocks = refl
 same_room _ out blocks = refl
 
 -- the room for the data-in depends neither on the data-out nor on the disk
-pub decoded_room : (decoded : Result Cdb CdbFault) (out : List ℕ) (blocks : ℕ) → (profile_by decoded out blocks).data_in ≡ room_of decoded
+pub decoded_room : (decoded : Result Cdb CdbFault) (out : List ℕ) (blocks : ℕ)
+    → (profile_by decoded out blocks).data_in ≡ room_of decoded
 decoded_room (Ok cdb) out blocks = same_room cdb.op out blocks
 decoded_room (Err fault) out blocks = refl
 

@@ -13,9 +13,21 @@ use Rattle.ct_cdb.specs.Encoding.{IsInPlace, IsControl, IsEncodable, bytes_of_op
 op_again : (op : Op) (control : ℕ) → IsInPlace op → IsControl control → cdb_of (bytes_of_op op control) ≡ Ok (record { op = op; control = control })
 unfolding row_of
 op_again (Read Ten lba count) control fits naca =
-    rw (big_number-reads_back 2 count [] (omega arith), le-leb count MOST_TRANSFER fits.1, eq-eqb (control / 4 % 2) 0 naca.1, big_number-reads_back 4 lba [] (omega arith))
+    rw (
+      big_number-reads_back 2 count [] (omega arith),
+      le-leb count MOST_TRANSFER fits.1,
+      eq-eqb (control / 4 % 2) 0
+          naca.1,
+      big_number-reads_back 4 lba [] (omega arith),
+    )
 op_again (Write Ten lba count) control fits naca =
-    rw (big_number-reads_back 2 count [] (omega arith), le-leb count MOST_TRANSFER fits.1, eq-eqb (control / 4 % 2) 0 naca.1, big_number-reads_back 4 lba [] (omega arith))
+    rw (
+      big_number-reads_back 2 count [] (omega arith),
+      le-leb count MOST_TRANSFER fits.1,
+      eq-eqb (control / 4 % 2) 0
+          naca.1,
+      big_number-reads_back 4 lba [] (omega arith),
+    )
 
 pub cdb_again : (cdb : Cdb) → IsEncodable cdb → cdb_of (bytes_of_cdb cdb) ≡ Ok cdb
 cdb_again cdb h = op_again cdb.op cdb.control h.op h.control

@@ -91,7 +91,8 @@ rows_rise bytes = refl
 record IsRising (bytes : List ℕ) (row : Option Row) : Type 0 where
   pub rises : IfSome row (λ row. rising 0 (fields_of row bytes) ≡ true)
 
-rises_at : (bytes : List ℕ) (code : ℕ) (all : List (ℕ × Row)) → all_rise bytes all ≡ true → IsRising bytes (row_at code all)
+rises_at : (bytes : List ℕ) (code : ℕ) (all : List (ℕ × Row)) → all_rise bytes all ≡ true
+    → IsRising bytes (row_at code all)
 rises_at bytes code [] rise = record { rises = tt }
 rises_at bytes code (first ∷ others) rise =
     let parts = and_parts (rising 0 (fields_of first.1 bytes)) (all_rise bytes others) rise in
@@ -120,11 +121,15 @@ told_operation bytes (Some row) = (to, λ h. absurd (cc))
     to h = elim (cases_Bool (length bytes == row.size)) [
       | inl same ↦
           let told : tried (fields_of row bytes) (accepted_cdb row bytes) ≡ Err BadOperation = rw same at h in
-          elim (tried_cases (fields_of row bytes) (accepted_cdb row bytes)) [ inl ok ↦ absurd (cc) | inr (byte, bad) ↦ absurd (cc) ]
-      | inr differs ↦ let told : Err (BadLength row.size (length bytes)) ≡ Err BadOperation = rw differs at h in absurd (cc)
+          elim (tried_cases (fields_of row bytes) (accepted_cdb row bytes))
+          [ inl ok ↦ absurd (cc) | inr (byte, bad) ↦ absurd (cc) ]
+      | inr differs ↦ let told : Err (BadLength row.size (length bytes)) ≡ Err BadOperation =
+          rw differs at h in absurd (cc)
     ]
 
-told_length : (bytes : List ℕ) (want got : ℕ) (row : Option Row) → (read_by_row row bytes ≡ Err (BadLength want got)) ↔ IsSomeAnd row (λ row. (want ≡ row.size) × (got ≡ length bytes) × (got ≢ want))
+told_length : (bytes : List ℕ) (want got : ℕ) (row : Option Row)
+    → (read_by_row row bytes ≡ Err (BadLength want got)) ↔ IsSomeAnd row
+    (λ row. (want ≡ row.size) × (got ≡ length bytes) × (got ≢ want))
 told_length bytes want got None = (λ h. absurd (cc), λ h. absurd h)
 told_length bytes want got (Some row) = (to, from)
   where
@@ -132,7 +137,8 @@ told_length bytes want got (Some row) = (to, from)
     to h = elim (cases_Bool (length bytes == row.size)) [
       | inl same ↦
           let told : tried (fields_of row bytes) (accepted_cdb row bytes) ≡ Err (BadLength want got) = rw same at h in
-          elim (tried_cases (fields_of row bytes) (accepted_cdb row bytes)) [ inl ok ↦ absurd (cc) | inr (byte, bad) ↦ absurd (cc) ]
+          elim (tried_cases (fields_of row bytes) (accepted_cdb row bytes))
+          [ inl ok ↦ absurd (cc) | inr (byte, bad) ↦ absurd (cc) ]
       | inr differs ↦
           let told : Err (BadLength row.size (length bytes)) ≡ Err (BadLength want got) = rw differs at h in
           let wanted : want ≡ row.size = cc in
@@ -143,20 +149,29 @@ told_length bytes want got (Some row) = (to, from)
     from : (want ≡ row.size) × (got ≡ length bytes) × (got ≢ want) → read_by row bytes ≡ Err (BadLength want got)
     from h = rw (ne_eqb (length bytes) row.size (λ same. h.2 (omega arith)), h.0, h.1) refl
 
-told_field : (bytes : List ℕ) (byte : ℕ) (row : Option Row) → IsRising bytes row → (read_by_row row bytes ≡ Err (BadField byte)) ↔ IsSomeAnd row (λ row. (length bytes ≡ row.size) × IsLowest (is_refused row bytes) byte)
+told_field : (bytes : List ℕ) (byte : ℕ) (row : Option Row) → IsRising bytes row
+    → (read_by_row row bytes ≡ Err (BadField byte)) ↔ IsSomeAnd row
+    (λ row. (length bytes ≡ row.size) × IsLowest (is_refused row bytes) byte)
 told_field bytes byte None rising = (λ h. absurd (cc), λ h. absurd h)
 told_field bytes byte (Some row) rising = (to, from)
   where
     to : read_by row bytes ≡ Err (BadField byte) → (length bytes ≡ row.size) × IsLowest (is_refused row bytes) byte
     to h = elim (cases_Bool (length bytes == row.size)) [
-      | inl same ↦ (eqb-true (length bytes) row.size same, told_lowest 0 byte (fields_of row bytes) (accepted_cdb row bytes) rising.rises (rw same at h))
-      | inr differs ↦ let told : Err (BadLength row.size (length bytes)) ≡ Err (BadField byte) = rw differs at h in absurd (cc)
+      | inl same ↦ (
+        eqb-true (length bytes) row.size same,
+        told_lowest 0 byte (fields_of row bytes) (accepted_cdb row bytes)
+            rising.rises (rw same at h),
+      )
+      | inr differs ↦ let told : Err (BadLength row.size (length bytes)) ≡ Err (BadField byte) =
+          rw differs at h in absurd (cc)
     ]
 
     from : (length bytes ≡ row.size) × IsLowest (is_refused row bytes) byte → read_by row bytes ≡ Err (BadField byte)
-    from h = rw (eq-eqb (length bytes) row.size h.0) (lowest_told 0 byte (fields_of row bytes) (accepted_cdb row bytes) rising.rises h.1)
+    from h = rw (eq-eqb (length bytes) row.size h.0)
+        (lowest_told 0 byte (fields_of row bytes) (accepted_cdb row bytes) rising.rises h.1)
 
-accepts_row : (bytes : List ℕ) (cdb : Cdb) (row : Option Row) → (read_by_row row bytes ≡ Ok cdb) ↔ IsSomeAnd row (λ row. IsAccepted row bytes × (cdb ≡ accepted_cdb row bytes))
+accepts_row : (bytes : List ℕ) (cdb : Cdb) (row : Option Row)
+    → (read_by_row row bytes ≡ Ok cdb) ↔ IsSomeAnd row (λ row. IsAccepted row bytes × (cdb ≡ accepted_cdb row bytes))
 accepts_row bytes cdb None = (λ h. absurd (cc), λ h. absurd h)
 accepts_row bytes cdb (Some row) = (to, from)
   where
@@ -169,10 +184,13 @@ accepts_row bytes cdb (Some row) = (to, from)
     ]
 
     from : IsAccepted row bytes × (cdb ≡ accepted_cdb row bytes) → read_by row bytes ≡ Ok cdb
-    from h = rw (eq-eqb (length bytes) row.size h.0.0) (none_refused (fields_of row bytes) (accepted_cdb row bytes) h.0.1 ∙ ap Ok (sym h.1))
+    from h = rw (eq-eqb (length bytes) row.size h.0.0)
+        (none_refused (fields_of row bytes) (accepted_cdb row bytes) h.0.1 ∙ ap Ok (sym h.1))
 
 -- no bytes are told as such, and all others by their row
-by_row : (bytes : List ℕ) (answer : Result Cdb CdbFault) (holds : Row → Type 0) → (Err Empty ≡ answer → ⊥) → (read_by_row (row_of bytes) bytes ≡ answer) ↔ IsSomeAnd (row_of bytes) holds → (cdb_of bytes ≡ answer) ↔ HasRow bytes holds
+by_row : (bytes : List ℕ) (answer : Result Cdb CdbFault) (holds : Row → Type 0) → (Err Empty ≡ answer → ⊥)
+    → (read_by_row (row_of bytes) bytes ≡ answer) ↔ IsSomeAnd (row_of bytes) holds
+    → (cdb_of bytes ≡ answer) ↔ HasRow bytes holds
 by_row [] answer holds other both = (λ h. absurd (other h), λ h. absurd (h.0 refl))
 by_row (code ∷ others) answer holds other both =
     let some : (length (code ∷ others) == 0) ≡ false = ne_eqb (length (code ∷ others)) 0 (λ none. omega arith) in
@@ -191,9 +209,12 @@ empty (code ∷ others) = (to, λ h. absurd (cc))
         never_empty None told = cc
         never_empty (Some row) told = elim (cases_Bool (length (code ∷ others) == row.size)) [
           | inl same ↦
-              let tried_so : tried (fields_of row (code ∷ others)) (accepted_cdb row (code ∷ others)) ≡ Err Empty = rw same at told in
-              elim (tried_cases (fields_of row (code ∷ others)) (accepted_cdb row (code ∷ others))) [ inl ok ↦ absurd (cc) | inr (byte, bad) ↦ absurd (cc) ]
-          | inr differs ↦ let told_so : Err (BadLength row.size (length (code ∷ others))) ≡ Err Empty = rw differs at told in absurd (cc)
+              let tried_so : tried (fields_of row (code ∷ others)) (accepted_cdb row (code ∷ others)) ≡ Err Empty =
+              rw same at told in
+              elim (tried_cases (fields_of row (code ∷ others)) (accepted_cdb row (code ∷ others)))
+              [ inl ok ↦ absurd (cc) | inr (byte, bad) ↦ absurd (cc) ]
+          | inr differs ↦ let told_so : Err (BadLength row.size (length (code ∷ others))) ≡ Err Empty =
+              rw differs at told in absurd (cc)
         ]
 
 pub bad_operation : (bytes : List ℕ) → (cdb_of bytes ≡ Err BadOperation) ↔ ((bytes ≢ []) × (row_of bytes ≡ None))
@@ -203,11 +224,18 @@ bad_operation (code ∷ others) =
     let both = told_operation (code ∷ others) (row_of (code ∷ others)) in
     (λ h. (λ none. cc, both.0 (rw some at h)), λ h. rw some (both.1 h.1))
 
-pub bad_length : (bytes : List ℕ) (want got : ℕ) → (cdb_of bytes ≡ Err (BadLength want got)) ↔ HasRow bytes (λ row. (want ≡ row.size) × (got ≡ length bytes) × (got ≢ want))
-bad_length bytes want got = by_row bytes (Err (BadLength want got)) _ (λ h. cc) (told_length bytes want got (row_of bytes))
+pub bad_length : (bytes : List ℕ) (want got : ℕ)
+    → (cdb_of bytes ≡ Err (BadLength want got)) ↔ HasRow bytes
+    (λ row. (want ≡ row.size) × (got ≡ length bytes) × (got ≢ want))
+bad_length bytes want got =
+    by_row bytes (Err (BadLength want got)) _ (λ h. cc) (told_length bytes want got (row_of bytes))
 
-pub bad_field : (bytes : List ℕ) (byte : ℕ) → (cdb_of bytes ≡ Err (BadField byte)) ↔ HasRow bytes (λ row. (length bytes ≡ row.size) × IsLowest (is_refused row bytes) byte)
-bad_field bytes byte = by_row bytes (Err (BadField byte)) _ (λ h. cc) (told_field bytes byte (row_of bytes) (row_rises bytes))
+pub bad_field : (bytes : List ℕ) (byte : ℕ)
+    → (cdb_of bytes ≡ Err (BadField byte)) ↔ HasRow bytes
+    (λ row. (length bytes ≡ row.size) × IsLowest (is_refused row bytes) byte)
+bad_field bytes byte =
+    by_row bytes (Err (BadField byte)) _ (λ h. cc) (told_field bytes byte (row_of bytes) (row_rises bytes))
 
-pub accepted : (bytes : List ℕ) (cdb : Cdb) → (cdb_of bytes ≡ Ok cdb) ↔ HasRow bytes (λ row. IsAccepted row bytes × (cdb ≡ accepted_cdb row bytes))
+pub accepted : (bytes : List ℕ) (cdb : Cdb)
+    → (cdb_of bytes ≡ Ok cdb) ↔ HasRow bytes (λ row. IsAccepted row bytes × (cdb ≡ accepted_cdb row bytes))
 accepted bytes cdb = by_row bytes (Ok cdb) _ (λ h. cc) (accepts_row bytes cdb (row_of bytes))

@@ -1,5 +1,6 @@
 -- The row of a command, what is read off it, and what holds of every row.
-use Rattle.std.specs.Prelude.{◌≡◌, ℕ, suc, ◌+◌, ◌*◌, ◌<◌, ◌≤◌, max, List, [], ◌∷◌, length, Bool, true, false, not, ◌&&◌, nat_lt, Result, Ok, Err, if◌then◌else◌}
+use Rattle.std.specs.Prelude.{◌≡◌, ℕ, suc, ◌+◌, ◌*◌, ◌<◌, ◌≤◌, max, List, [], ◌∷◌, length, Bool, true, false, not, ◌&&◌}
+use Rattle.std.specs.Prelude.{nat_lt, Result, Ok, Err, if◌then◌else◌}
 use Rattle.std.specs.List.{list_all, list_any}
 use Rattle.ct_word.specs.declared.limit.TheConstants.{BLOCK_SIZE}
 use Rattle.ct_cdb.specs.declared.op.Op.{Op}
@@ -48,8 +49,8 @@ operations profile = length profile.phases * total profile.ranges
 abbrev pub is_performed : ℕ → ℕ → Profile → Bool
 is_performed out blocks profile = not (nat_lt out profile.data_out) && list_all (is_inside blocks) profile.ranges
 
--- the serialisation index of a command, the block operations that it asks for, and the room for its data-in: these columns
--- depend neither on its data-out nor on the disk, but for a command whose data-out names its blocks, which asks for none
+-- the serialisation index of a command, the block operations that it asks for, and the room for its data-in: columns
+-- that depend neither on its data-out nor on the disk; a command whose data-out names its blocks asks for none
 abbrev pub index_of : Op → SerIdx
 index_of op = (profile_of op [] 0).index
 
@@ -107,8 +108,8 @@ abbrev pub giving : List Phase → ℕ
 giving [] = 0
 giving (phase ∷ phases) = if gives phase then suc (giving phases) else giving phases
 
--- the index that a row has goes with its phases: the table of conflicts lets commands of the index Rd pass one another, and
--- those of Rd, Wr and Un alone move blocks
+-- the index that a row has goes with its phases: the table of conflicts lets commands of the index Rd pass one
+-- another, and those of Rd, Wr and Un alone move blocks
 abbrev pub has_no_phase : List Phase → Bool
 has_no_phase [] = true
 has_no_phase (phase ∷ phases) = false

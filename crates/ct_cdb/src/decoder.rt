@@ -1,4 +1,4 @@
-//! From bytes to a CDB. The code byte names a row of the table, which is one function; rows stand by family of commands.
+//! From bytes to a CDB. The code byte names a row of the table, which is one function; rows stand by family.
 
 mod blocks;
 
@@ -69,8 +69,10 @@ fn accept(field: &Field) -> Result<(), CdbFault>
 
 /// None of these fields is refused.
 fn accept_all(fields: &Few<Field>) -> Result<(), CdbFault>
-    ensures good { OnOk result ((more : List AnyField) (cdb : AnyCdb) → tried (fields.now ++ more) cdb ≡ tried more cdb) }
-    ensures bad { IfErr result (λ fault. (more : List AnyField) (cdb : AnyCdb) → tried (fields.now ++ more) cdb ≡ Err fault) }
+    ensures good { OnOk result ((more : List AnyField) (cdb : AnyCdb) →
+        tried (fields.now ++ more) cdb ≡ tried more cdb) }
+    ensures bad { IfErr result (λ fault. (more : List AnyField) (cdb : AnyCdb) →
+        tried (fields.now ++ more) cdb ≡ Err fault) }
 {
     match fields.items() {
         (None, _) => Ok(()),

@@ -35,6 +35,8 @@ pub fn encoded_reads_back()
 /// The columns of each command's row fit one another, and its room for data-in depends on the CDB alone.
 pub fn rows_fit()
     ensures fits { (op : Op) (out : List ℕ) (blocks : ℕ) → Fits (profile_of op out blocks) }
-    ensures undecoded { (decoded : Result Cdb AnyFault) (out : List ℕ) (blocks : ℕ) → Fits (profile_by decoded out blocks) }
-    ensures room { (decoded : Result Cdb AnyFault) (out : List ℕ) (blocks : ℕ) → (profile_by decoded out blocks).data_in ≡ room_of decoded }
+    ensures undecoded { (decoded : Result Cdb AnyFault) (out : List ℕ) (blocks : ℕ) →
+        Fits (profile_by decoded out blocks) }
+    ensures room { (decoded : Result Cdb AnyFault) (out : List ℕ) (blocks : ℕ) →
+        (profile_by decoded out blocks).data_in ≡ room_of decoded }
 {}

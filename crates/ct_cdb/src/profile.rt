@@ -4,7 +4,8 @@ mod blocks;
 
 ghost use Rattle.std.specs.Prelude.{◌≡◌};
 ghost use Rattle.std.specs.List.{list_any};
-ghost use Rattle.ct_cdb.specs.Profiles.{reads, writes, profile_of, profile_by, undecoded, operations, index_of, asked_of, is_performed};
+ghost use Rattle.ct_cdb.specs.Profiles.{reads, writes, profile_of, profile_by, undecoded, operations, index_of};
+ghost use Rattle.ct_cdb.specs.Profiles.{asked_of, is_performed};
 
 use crate::few::Few;
 use crate::op::{Cdb, CdbFault, Op, SerIdx};

@@ -1,5 +1,6 @@
 -- What a command does at once that nothing refuses is what its plan does.
-use Rattle.std.proofs.Common.{◌≡◌, ℕ, Bool, true, false, not, ◌&&◌, nat_lt, cond, if◌then◌else◌, List, [], length, Option, None, Some, Result, Ok, Err, refl, sym, ◌∙◌, ap, subst}
+use Rattle.std.proofs.Common.{◌≡◌, ℕ, Bool, true, false, not, ◌&&◌, nat_lt, cond, if◌then◌else◌, List, [], length}
+use Rattle.std.proofs.Common.{Option, None, Some, Result, Ok, Err, refl, sym, ◌∙◌, ap, subst}
 use Rattle.std.specs.List.{list_all}
 use Rattle.std.proofs.lemmas.Bool.{and_parts}
 use Rattle.ct_word.specs.Nexuses.{no_nexuses}
@@ -19,15 +20,19 @@ use Rattle.ct_plan.proofs.Cuts.{whole_phases}
 use Rattle.ct_book.specs.declared.work.Command.{Command}
 use Rattle.ct_book.specs.Works.{profile_in}
 use Rattle.ct_exec.specs.Controls.{ControlState, Disk}
-use Rattle.ct_exec.specs.Executions.{Execution, good, check_condition, row_refusal, refusal_of, refusal_by, reply_moved, execute, executed, effect_of, plan_in}
+use Rattle.ct_exec.specs.Executions.{Execution, good, check_condition, row_refusal, refusal_of, refusal_by, reply_moved}
+use Rattle.ct_exec.specs.Executions.{execute, executed, effect_of, plan_in}
 
 -- nothing refuses what is performed
-unrefused_performed : (control : ControlState) (blocks out : ℕ) (decoded : Result Cdb CdbFault) (profile : Profile) → refusal_by control blocks out decoded profile ≡ None → is_performed out blocks profile ≡ true
+unrefused_performed : (control : ControlState) (blocks out : ℕ) (decoded : Result Cdb CdbFault) (profile : Profile)
+    → refusal_by control blocks out decoded profile ≡ None → is_performed out blocks profile ≡ true
 unrefused_performed control blocks out (Err fault) profile h = absurd (cc)
-unrefused_performed control blocks out (Ok cdb) profile h = go (nat_lt out profile.data_out) (list_all (is_inside blocks) profile.ranges) h
+unrefused_performed control blocks out (Ok cdb) profile h =
+    go (nat_lt out profile.data_out) (list_all (is_inside blocks) profile.ranges) h
   where
     go : (short inside : Bool)
-        → (if short then Some (check_condition control PARAMETER_LIST_LENGTH_ERROR None) else if not inside then Some (check_condition control LBA_OUT_OF_RANGE None) else None) ≡ None
+        → (if short then Some (check_condition control PARAMETER_LIST_LENGTH_ERROR None) else if not inside then Some
+        (check_condition control LBA_OUT_OF_RANGE None) else None) ≡ None
         → (not short && inside) ≡ true
     go true inside e = absurd (cc)
     go false true e = refl
@@ -50,19 +55,29 @@ pub whole_execution : (disk : Disk) (c : Command) → refusal_of disk.control (l
 unfolding execute refusal_of plan_in plan_of
 whole_execution disk c unrefused =
     let profile : Profile = profile_in (length disk.blocks) c in
-    let yes : is_performed (length c.out) (length disk.blocks) profile ≡ true = unrefused_performed disk.control (length disk.blocks) (length c.out) (cdb_of c.cdb) profile unrefused in
-    let inside = and_parts (not (nat_lt (length c.out) profile.data_out)) (list_all (is_inside (length disk.blocks)) profile.ranges) yes in
+    let yes : is_performed (length c.out) (length disk.blocks) profile ≡ true =
+    unrefused_performed disk.control (length disk.blocks) (length c.out) (cdb_of c.cdb) profile unrefused in
+    let inside =
+    and_parts (not (nat_lt (length c.out) profile.data_out))
+    (list_all (is_inside (length disk.blocks)) profile.ranges) yes in
     let ends = whole_phases c.out profile.ranges profile.phases (start disk.blocks) inside.1 in
-    let planned_so : planned profile.phases profile.ranges ≡ cond (is_performed (length c.out) (length disk.blocks) profile) (planned profile.phases profile.ranges) [] = ap (λ (b : Bool). cond b (planned profile.phases profile.ranges) []) (sym yes) in
+    let planned_so : planned profile.phases profile.ranges
+    ≡ cond (is_performed (length c.out) (length disk.blocks) profile) (planned profile.phases profile.ranges) [] =
+    ap (λ (b : Bool). cond b (planned profile.phases profile.ranges) []) (sym yes) in
     ap (λ (refusal : Option Reply). executed refusal disk c) unrefused
     ∙ ap (λ (d : Option ℕ). record {
-      disk = record { control = disk.control; blocks = (effect c.out profile.ranges profile.phases (start disk.blocks)).cells.blocks };
+      disk = record {
+        control = disk.control;
+        blocks =
+            (effect c.out profile.ranges profile.phases (start disk.blocks)).cells.blocks;
+      };
       reply = reply_moved disk.control d (effect c.out profile.ranges profile.phases (start disk.blocks)).cells.got;
       cleared = no_nexuses;
     }) (sym ends.difference)
     ∙ ap (λ (cells : Cells). record {
       disk = record { control = disk.control; blocks = cells.blocks };
-      reply = reply_moved disk.control (performed c.out (planned profile.phases profile.ranges) (start disk.blocks)).difference cells.got;
+      reply = reply_moved disk.control
+          (performed c.out (planned profile.phases profile.ranges) (start disk.blocks)).difference cells.got;
       cleared = no_nexuses;
     }) (sym ends.cells)
     ∙ ap (λ (operations : List BlockOp). operated_by disk (performed c.out operations (start disk.blocks))) planned_so
@@ -72,6 +87,10 @@ pub done_at_once : (control : ControlState) (command : Command) (count : ℕ) (b
     → execute (record { control = control; blocks = blocks }) command ≡ record { disk = record { control = control; blocks = blocks }; reply = good []; cleared = no_nexuses }
 done_at_once control command count blocks unrefused unplanned size =
     let disk : Disk = record { control = control; blocks = blocks } in
-    let refused : refusal_of control (length blocks) command ≡ None = subst (λ (n : ℕ). refusal_of control n command ≡ None) (sym size) unrefused in
-    let planned_is : plan_in (length blocks) command ≡ [] = subst (λ (n : ℕ). plan_in n command ≡ []) (sym size) unplanned in
-    whole_execution disk command refused ∙ ap (λ (operations : List BlockOp). operated_by disk (performed command.out operations (start blocks))) planned_is
+    let refused : refusal_of control (length blocks) command ≡ None =
+    subst (λ (n : ℕ). refusal_of control n command ≡ None) (sym size) unrefused in
+    let planned_is : plan_in (length blocks) command ≡ [] =
+    subst (λ (n : ℕ). plan_in n command ≡ []) (sym size) unplanned in
+    whole_execution disk command refused
+    ∙ ap (λ (operations : List BlockOp). operated_by disk (performed command.out operations (start blocks)))
+    planned_is

@@ -11,7 +11,9 @@ use Rattle.ct_cdb.specs.Ranges.{is_inside}
 use Rattle.ct_sense.specs.declared.reply.Reply.{Reply}
 use Rattle.ct_sense.specs.declared.reply.Status.TheVariants as status
 use Rattle.ct_sense.specs.declared.sense.SenseCode.{SenseCode}
-use Rattle.ct_sense.specs.declared.code.TheConstants.{INVALID_COMMAND_OPERATION_CODE, INVALID_FIELD_IN_CDB, PARAMETER_LIST_LENGTH_ERROR, LBA_OUT_OF_RANGE, MISCOMPARE_DURING_VERIFY, UNRECOVERED_READ_ERROR, WRITE_ERROR}
+use Rattle.ct_sense.specs.declared.code.TheConstants.{INVALID_COMMAND_OPERATION_CODE, INVALID_FIELD_IN_CDB}
+use Rattle.ct_sense.specs.declared.code.TheConstants.{PARAMETER_LIST_LENGTH_ERROR, LBA_OUT_OF_RANGE}
+use Rattle.ct_sense.specs.declared.code.TheConstants.{MISCOMPARE_DURING_VERIFY, UNRECOVERED_READ_ERROR, WRITE_ERROR}
 use Rattle.ct_sense.specs.Codes.{sense_of}
 use Rattle.ct_plan.specs.declared.operation.BlockOp.{BlockOp}
 use Rattle.ct_plan.specs.declared.operation.BlockOp.TheVariants as operations
@@ -61,7 +63,8 @@ refusal_by control blocks out (Ok cdb) profile = row_refusal control blocks out 
 
 -- the reply that refuses a command when it begins, on a disk of so many blocks, if there is one
 unfoldable pub refusal_of : ControlState → ℕ → Command → Option Reply
-refusal_of control blocks command = refusal_by control blocks (length command.out) (cdb_of command.cdb) (profile_in blocks command)
+refusal_of control blocks command =
+    refusal_by control blocks (length command.out) (cdb_of command.cdb) (profile_in blocks command)
 
 -- the control after a refusal
 unfoldable pub refused_control : ControlState → Command → ControlState

@@ -1,5 +1,7 @@
 -- Operations on two lists of blocks that agree where they go.
-use Rattle.std.proofs.Common.{◌≡◌, ℕ, zero, suc, ◌+◌, ◌*◌, ◌≤◌, ◌<◌, Bool, true, false, ◌||◌, List, [], ◌∷◌, ◌++◌, Option, Some, None, length, take, slice_index_or, slice_set, refl, sym, ap, ◌∙◌, subst, ⊎_elim, arith, nat_eq, eq-eqb, cond}
+use Rattle.std.proofs.Common.{◌≡◌, ℕ, zero, suc, ◌+◌, ◌*◌, ◌≤◌, ◌<◌, Bool, true, false, ◌||◌, List, [], ◌∷◌, ◌++◌}
+use Rattle.std.proofs.Common.{Option, Some, None, length, take, slice_index_or, slice_set, refl, sym, ap, ◌∙◌, subst}
+use Rattle.std.proofs.Common.{⊎_elim, arith, nat_eq, eq-eqb, cond}
 use Rattle.std.specs.Prelude.{option_map}
 use Rattle.std.proofs.lemmas.Bool.{cases_eq, cases_lt, or_cases, or_parts, or_left, or_right, both_ways, or_from}
 use Rattle.std.proofs.lemmas.List.{length-set, get_or-set_same, get_or-set_other, set_past}
@@ -7,7 +9,8 @@ use Rattle.ct_plan.specs.declared.operation.BlockOp.{BlockOp}
 use Rattle.ct_plan.specs.declared.operation.BlockOp.TheVariants as operations
 use Rattle.ct_plan.specs.Plans.{is_put, puts_among}
 use Rattle.ct_plan.specs.Tasks.{lba_of}
-use Rattle.ct_plan.specs.Cells.{Cells, out_block, zero_block, after, after_all, first_difference, difference_at, Progress, one_more, unless, performed}
+use Rattle.ct_plan.specs.Cells.{Cells, out_block, zero_block, after, after_all, first_difference, difference_at}
+use Rattle.ct_plan.specs.Cells.{Progress, one_more, unless, performed}
 use Rattle.ct_plan.proofs.Performing.{performed-cells, size_after_all}
 use Rattle.ct_machine.specs.Serial.{first_puts}
 

@@ -14,11 +14,13 @@ use Rattle.ct_machine.specs.Serial.{first_puts, cut_disk}
 use Rattle.ct_machine.specs.Laws.{goes_first}
 use Rattle.ct_law.proofs.Tasks.{Has, precedes}
 use Rattle.ct_plan.proofs.Performing.{performed-all, size_after_all}
-use Rattle.ct_law.proofs.Blocks.{cell, puts, start, Like, perform_size, perform_elsewhere, unused_put, puts_front, only_puts, first_puts_front, only_puts_blocks}
+use Rattle.ct_law.proofs.Blocks.{cell, puts, start, Like, perform_size, perform_elsewhere, unused_put, puts_front}
+use Rattle.ct_law.proofs.Blocks.{only_puts, first_puts_front, only_puts_blocks}
 use Rattle.ct_law.proofs.Laws.{Laws, Apart, has_operations, operated, IsOnce, Same}
 use Rattle.ct_law.proofs.Ready.{IsReady, free_of, undemanded, undemanded_must}
 use Rattle.ct_law.proofs.Held.{Uses, Running, IsRunning, IsSingle, Holds, Rules, is_active, moves_to, rules_turn, rules_stay, not_put, turned}
-use Rattle.ct_law.proofs.Execs.{made_all, later, then', then_size, then_elsewhere, done_is, runs_on, seen_whole, seen_difference}
+use Rattle.ct_law.proofs.Execs.{made_all, later, then', then_size, then_elsewhere, done_is, runs_on, seen_whole}
+use Rattle.ct_law.proofs.Execs.{seen_difference}
 
 -- what a cut command has put is what its operations have put
 pub cut_blocks : (n : ℕ) (disk : Disk) (blocks : List (List ℕ)) (c : Command) (done : ℕ) (got : List ℕ) (run : Running n disk blocks c done got) → length disk.blocks ≡ n →

@@ -1,5 +1,6 @@
 -- Entries: a work is done, and its command leaves the task set at once, or when A is told.
-use Rattle.std.proofs.Common.{◌≡◌, ℕ, ◌≤◌, ◌<◌, ◌⊎◌, inl, true, false, List, [], ◌∷◌, ◌++◌, Some, None, length, refl, sym, ap, ◌∙◌, subst, ⊎_elim, arith, eqb-true, ne_eqb}
+use Rattle.std.proofs.Common.{◌≡◌, ℕ, ◌≤◌, ◌<◌, ◌⊎◌, inl, true, false, List, [], ◌∷◌, ◌++◌, Some, None, length, refl}
+use Rattle.std.proofs.Common.{sym, ap, ◌∙◌, subst, ⊎_elim, arith, eqb-true, ne_eqb}
 use Rattle.std.proofs.lemmas.Bool.{both_ways, or_right}
 use Rattle.ct_sense.specs.declared.reply.Reply.{Reply}
 use Rattle.ct_book.specs.declared.event.Event.{Event}
@@ -21,7 +22,8 @@ use Rattle.ct_law.proofs.Messages.{is_arrival, is_end, sent_push}
 use Rattle.ct_law.proofs.Books.{IsAsk, IsFresh, is_over, books_tell, books_turns, books_removes, books_function}
 use Rattle.ct_law.proofs.Orders.{orders_event, orders_turns, orders_removes}
 use Rattle.ct_law.proofs.Opens.{Opens, HasOpen, WasActive, Begins, opens_event, opens_queue, opens_a}
-use Rattle.ct_law.proofs.Inv.{LawfulAt, Frame, Others, Inv, replied, is_move, restricted_before, serial-same, cells_event, cells_quiet}
+use Rattle.ct_law.proofs.Inv.{LawfulAt, Frame, Others, Inv, replied, is_move, restricted_before, serial-same}
+use Rattle.ct_law.proofs.Inv.{cells_event, cells_quiet}
 use Rattle.ct_machine.specs.Laws.{IsTurnedFor}
 use Rattle.ct_law.proofs.Steps.{rules_same, holds_same}
 

@@ -11,7 +11,8 @@ use Rattle.ct_exec.specs.Executions.{plan_in}
 use Rattle.ct_plan.specs.Pieces.{tried}
 use Rattle.ct_plan.proofs.Lists.{slice_get-drop}
 use Rattle.ct_plan.proofs.Performing.{performed-on, performed-stopped, performed-all, performed-cells, made_within}
-use Rattle.ct_law.proofs.Blocks.{cell, uses, puts, start, Like, perform_like, perform_elsewhere, perform_size, performed_made, uses_front, uses_back, puts_front, puts_back}
+use Rattle.ct_law.proofs.Blocks.{cell, uses, puts, start, Like, perform_like, perform_elsewhere, perform_size}
+use Rattle.ct_law.proofs.Blocks.{performed_made, uses_front, uses_back, puts_front, puts_back}
 use Rattle.ct_law.proofs.Held.{Uses, Running}
 
 -- a command before more operations, and after them

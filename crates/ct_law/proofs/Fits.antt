@@ -29,7 +29,14 @@ use Rattle.ct_machine.specs.declared.act.Opening.{Opening}
 use Rattle.ct_machine.specs.States.{Stage, Waiting, Here, Granted, There, Over, Task, Open, Message, Arrival, State, opened, disk_of, arrival_of, task_of, function_of, is_here, is_moving, without_task, with_task, at_stage}
 use Rattle.ct_machine.specs.Events.{message, staged, cells_after, further, moved_from, moved_at, after_moved, after_ended, cut_at, after_cut, is_hit, is_told, taken_up, awaits_no_more, came_to_a, after_grant, came_to_b, after_came, after_enter, asked_for, after_asked, after_event, after}
 use Rattle.ct_plan.specs.Pieces.{tried}
-use Rattle.ct_machine.specs.Acts.{Turn, nothing, writes, says, replies, followed, turned_cause, entering_with, most_open, outcome_of, puts_of, cutting, numbers_of, cutting_all, closing_if, closing, open_numbers, closing_all, taking_up, asking, moving_on, failing, failing_if, moved_to, moving_from, clearing_all, ending_at_once, is_granted, beginning_at, beginning, Done, next_number, has_room_for, arriving_at, arriving, blocked_by, beginning_unless, stepping_at, is_sent, stepping, taking_in, coming_in, coming_to_a, stopping_at, stopping, coming_to_b, delivering_first, messages_to, delivering, next_step, stepping_next, doing_next, doing}
+use Rattle.ct_machine.specs.Acts.{Turn, nothing, writes, says, replies, followed, turned_cause, entering_with}
+use Rattle.ct_machine.specs.Acts.{most_open, outcome_of, puts_of, cutting, numbers_of, cutting_all, closing_if, closing}
+use Rattle.ct_machine.specs.Acts.{open_numbers, closing_all, taking_up, asking, moving_on, failing, failing_if}
+use Rattle.ct_machine.specs.Acts.{moved_to, moving_from, clearing_all, ending_at_once, is_granted, beginning_at}
+use Rattle.ct_machine.specs.Acts.{beginning, Done, next_number, has_room_for, arriving_at, arriving, blocked_by}
+use Rattle.ct_machine.specs.Acts.{beginning_unless, stepping_at, is_sent, stepping, taking_in, coming_in, coming_to_a}
+use Rattle.ct_machine.specs.Acts.{stopping_at, stopping, coming_to_b, delivering_first, messages_to, delivering}
+use Rattle.ct_machine.specs.Acts.{next_step, stepping_next, doing_next, doing}
 use Rattle.ct_machine.specs.Runs.{replay, IsRun}
 use Rattle.ct_machine.specs.Laws.{reserved_events}
 use Rattle.ct_law.proofs.Tasks.{Has, has_found, has_without}

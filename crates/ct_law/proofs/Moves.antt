@@ -1,5 +1,6 @@
 -- A command begins, and moves.
-use Rattle.std.proofs.Common.{◌≡◌, ℕ, ◌⊎◌, inl, inr, Bool, true, false, not, List, [], ◌∷◌, ◌++◌, Some, None, length, refl, sym, ap, ◌∙◌, subst, ⊎_elim, arith, nat_eq, eq-eqb, ne_eqb, cond, take, drop}
+use Rattle.std.proofs.Common.{◌≡◌, ℕ, ◌⊎◌, inl, inr, Bool, true, false, not, List, [], ◌∷◌, ◌++◌, Some, None, length}
+use Rattle.std.proofs.Common.{refl, sym, ap, ◌∙◌, subst, ⊎_elim, arith, nat_eq, eq-eqb, ne_eqb, cond, take, drop}
 use Rattle.std.proofs.lemmas.Option.{same_Some}
 use Rattle.std.proofs.lemmas.Bool.{both_ways, or_left, or_right, or_from}
 use Rattle.ct_book.specs.declared.work.Command.{Command}
@@ -22,7 +23,8 @@ use Rattle.ct_law.proofs.Messages.{IsStop}
 use Rattle.ct_law.proofs.Books.{is_over, arrival_for, books_turns}
 use Rattle.ct_law.proofs.Orders.{orders_event, orders_turns}
 use Rattle.ct_law.proofs.Opens.{HasOpen, is_remote, opens_event}
-use Rattle.ct_law.proofs.Inv.{LawfulAt, Frame, Gained, Inv, Others, got_at, told, is_move, is_done, known_in, serial-same, cells_event}
+use Rattle.ct_law.proofs.Inv.{LawfulAt, Frame, Gained, Inv, Others, got_at, told, is_move, is_done, known_in}
+use Rattle.ct_law.proofs.Inv.{serial-same, cells_event}
 use Rattle.ct_plan.specs.Cells.{Progress, performed}
 use Rattle.ct_exec.specs.Executions.{refusal_of, plan_in}
 use Rattle.ct_machine.specs.Events.{further}
@@ -31,7 +33,8 @@ use Rattle.ct_law.proofs.Laws.{Laws, has_operations}
 use Rattle.ct_law.proofs.Blocks.{perform_alike}
 use Rattle.ct_law.proofs.Ready.{IsReady}
 use Rattle.ct_law.proofs.Execs.{made_again, then_size}
-use Rattle.ct_law.proofs.Ends.{first_stage, begins_rules, begins_held, IsAt, at_active, at_done, at_further, moved_rules, moved_held, comes_on, comes_to, moved_state}
+use Rattle.ct_law.proofs.Ends.{first_stage, begins_rules, begins_held, IsAt, at_active, at_done, at_further}
+use Rattle.ct_law.proofs.Ends.{moved_rules, moved_held, comes_on, comes_to, moved_state}
 use Rattle.ct_law.proofs.Inv.{in_order}
 use Rattle.ct_law.proofs.Steps.{rules_same, holds_same}
 use Rattle.ct_law.proofs.Entries.{Own, opens_turns}

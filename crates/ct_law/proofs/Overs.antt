@@ -1,5 +1,7 @@
 -- Ends and cuts of commands.
-use Rattle.std.proofs.Common.{◌≡◌, ℕ, ◌≤◌, inl, inr, Bool, true, false, not, List, [], ◌∷◌, ◌++◌, Option, Some, None, length, refl, sym, ap, ◌∙◌, subst, ⊎_elim, arith, nat_eq, eqb-true, eq-eqb, ne_eqb, take, slice_get}
+use Rattle.std.proofs.Common.{◌≡◌, ℕ, ◌≤◌, inl, inr, Bool, true, false, not, List, [], ◌∷◌, ◌++◌, Option, Some, None}
+use Rattle.std.proofs.Common.{length, refl, sym, ap, ◌∙◌, subst, ⊎_elim, arith, nat_eq, eqb-true, eq-eqb, ne_eqb, take}
+use Rattle.std.proofs.Common.{slice_get}
 use Rattle.std.proofs.lemmas.Option.{same_Some}
 use Rattle.std.proofs.lemmas.Bool.{both_ways}
 use Rattle.ct_word.specs.declared.names.Node.{Node}
@@ -23,7 +25,8 @@ use Rattle.ct_law.proofs.Held.{Rules, Holds, is_active}
 use Rattle.ct_law.proofs.Growing.{numbered-map}
 use Rattle.ct_law.proofs.Books.{is_over, arrival_for}
 use Rattle.ct_law.proofs.Opens.{Opens, HasOpen, opens_event, opens_cut}
-use Rattle.ct_law.proofs.Inv.{LawfulAt, Frame, Gained, Inv, Others, others_of, got_at, told, replied, is_move, known_in, restricted_before, serial-same}
+use Rattle.ct_law.proofs.Inv.{LawfulAt, Frame, Gained, Inv, Others, others_of, got_at, told, replied, is_move, known_in}
+use Rattle.ct_law.proofs.Inv.{restricted_before, serial-same}
 use Rattle.ct_tmf.specs.Reaches.{hits}
 use Rattle.ct_plan.specs.declared.operation.BlockOp.{BlockOp}
 use Rattle.ct_plan.specs.Plans.{puts_among}
@@ -35,7 +38,8 @@ use Rattle.ct_machine.specs.Serial.{command_ran, command_cut, cut_disk}
 use Rattle.ct_machine.specs.Laws.{made_by, RepliesAsExecuted, IsCutFor}
 use Rattle.ct_law.proofs.Laws.{Laws, IsOnce, Same}
 use Rattle.ct_law.proofs.Ready.{IsReady}
-use Rattle.ct_law.proofs.Ends.{IsAt, at_active, at_done, at_further, running_in, cut_held, cut_rules, ran_held, ran_rules, once_same, once_rules, once_held, puts_at, disk_cut, comes_to, moved_state}
+use Rattle.ct_law.proofs.Ends.{IsAt, at_active, at_done, at_further, running_in, cut_held, cut_rules, ran_held}
+use Rattle.ct_law.proofs.Ends.{ran_rules, once_same, once_rules, once_held, puts_at, disk_cut, comes_to, moved_state}
 use Rattle.ct_law.proofs.Inv.{in_order}
 use Rattle.ct_law.proofs.Entries.{Own, over_state, over_alone, entry_so}
 use Rattle.ct_law.proofs.Moves.{own_alone, begun_at, not_open, Moved, moved_event, moves_so}

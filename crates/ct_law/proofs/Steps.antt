@@ -1,5 +1,6 @@
 -- Events that leave the stages of the task set, messages, and commands that come, enter, or are over.
-use Rattle.std.proofs.Common.{◌≡◌, ℕ, ◌+◌, inl, Bool, true, false, ◌||◌, List, [], ◌∷◌, ◌++◌, Some, None, length, refl, sym, ap, ◌∙◌, subst, ⊎_elim, arith}
+use Rattle.std.proofs.Common.{◌≡◌, ℕ, ◌+◌, inl, Bool, true, false, ◌||◌, List, [], ◌∷◌, ◌++◌, Some, None, length, refl}
+use Rattle.std.proofs.Common.{sym, ap, ◌∙◌, subst, ⊎_elim, arith}
 use Rattle.std.proofs.lemmas.Bool.{both_ways}
 use Rattle.std.proofs.lemmas.List.{map-append}
 use Rattle.ct_word.specs.declared.names.Node.{Node}
@@ -24,7 +25,8 @@ use Rattle.ct_law.proofs.Messages.{is_end, is_stop, Sent, stop_other}
 use Rattle.ct_law.proofs.Books.{Books, IsAsk, books_in}
 use Rattle.ct_law.proofs.Orders.{orders_event, orders_in}
 use Rattle.ct_law.proofs.Opens.{opens_came, opens_event, opens_queue, opens_a, opens_b}
-use Rattle.ct_law.proofs.Inv.{LawfulAt, Gained, Inv, got_at, told, restricted_before, serial-same, cells_event, cells_quiet}
+use Rattle.ct_law.proofs.Inv.{LawfulAt, Gained, Inv, got_at, told, restricted_before, serial-same, cells_event}
+use Rattle.ct_law.proofs.Inv.{cells_quiet}
 
 -- the serial disk and what holds of it are as they were
 pub rules_same : (o : Opening) (journal : List Logged) (e : Logged) (control : ControlState) (tasks : List Task) → serial_disk o (journal ++ e ∷ []) ≡ serial_disk o journal → Rules o.blocks (serial_disk o journal) control tasks → Rules o.blocks (serial_disk o (journal ++ e ∷ [])) control tasks

@@ -26,7 +26,9 @@ use Rattle.ct_exec.specs.Executions.{Execution, execute, refusal_of, plan_in, re
 use Rattle.ct_machine.specs.States.{disk_of, task_of}
 use Rattle.ct_machine.specs.Events.{after, after_ended, after_cut, after_moved, cut_at as cut_from, ended_at, moved_at, moved_from, further, stops_with, staged}
 use Rattle.ct_plan.specs.Pieces.{tried}
-use Rattle.ct_machine.specs.Acts.{Turn, nothing, writes, replies, followed, moving_on, failing, failing_if, moved_to, moving_from, clearing_all, ending_at_once, is_granted, beginning_at, beginning, numbers_of, blocked_by, beginning_unless, stepping_at, stepping, is_sent, Done}
+use Rattle.ct_machine.specs.Acts.{Turn, nothing, writes, replies, followed, moving_on, failing, failing_if, moved_to}
+use Rattle.ct_machine.specs.Acts.{moving_from, clearing_all, ending_at_once, is_granted, beginning_at, beginning}
+use Rattle.ct_machine.specs.Acts.{numbers_of, blocked_by, beginning_unless, stepping_at, stepping, is_sent, Done}
 use Rattle.ct_law.proofs.Tasks.{has_found}
 use Rattle.ct_law.proofs.Laws.{Laws, has_operations, IsOnce}
 use Rattle.ct_law.proofs.Cleared.{stops_none, clears_none}
@@ -34,7 +36,8 @@ use Rattle.ct_law.proofs.Ready.{IsReady, ready_in}
 use Rattle.ct_law.proofs.Held.{IsSingle}
 use Rattle.ct_law.proofs.Blocks.{none_made}
 use Rattle.ct_law.proofs.Execs.{later, tried_take, then_size, failed_at}
-use Rattle.ct_law.proofs.Ends.{first_stage, IsAt, at_done, at_further, puts_at, comes_on, comes_to, moved_state, moved_is}
+use Rattle.ct_law.proofs.Ends.{first_stage, IsAt, at_done, at_further, puts_at, comes_on, comes_to, moved_state}
+use Rattle.ct_law.proofs.Ends.{moved_is}
 use Rattle.ct_law.proofs.Steps.{answers, tells_b}
 use Rattle.ct_law.proofs.Entries.{over_alone, leaves_so, tells_so}
 use Rattle.ct_law.proofs.Moves.{first_event, begun_so, moves_so, moved_so}

@@ -1,5 +1,6 @@
 -- An act by which something happened writes an event.
-use Rattle.std.proofs.Common.{◌≡◌, ℕ, zero, suc, ◌+◌, ◌≤◌, Bool, true, false, List, [], ◌∷◌, Option, Some, None, length, take, drop, refl, sym, ap, ◌∙◌, arith, cond}
+use Rattle.std.proofs.Common.{◌≡◌, ℕ, zero, suc, ◌+◌, ◌≤◌, Bool, true, false, List, [], ◌∷◌, Option, Some, None, length}
+use Rattle.std.proofs.Common.{take, drop, refl, sym, ap, ◌∙◌, arith, cond}
 use Rattle.std.specs.Prelude.{◌≢◌, nat_le}
 use Rattle.std.specs.List.{list_any}
 use Rattle.std.proofs.lemmas.Bool.{both_ways, le-leb}
@@ -19,7 +20,10 @@ use Rattle.ct_machine.specs.declared.act.Answer.TheVariants as answer
 use Rattle.ct_machine.specs.declared.act.Opening.{Opening}
 use Rattle.ct_machine.specs.States.{Stage, Waiting, Here, Granted, There, Over, Task, Message, State, task_of}
 use Rattle.ct_plan.specs.Pieces.{tried}
-use Rattle.ct_machine.specs.Acts.{Turn, nothing, followed, moving_on, failing_if, moved_to, moving_from, is_granted, beginning_at, beginning, Done, next_number, has_room_for, arriving_at, arriving, blocked_by, beginning_unless, stepping_at, is_sent, stepping, delivering_first, messages_to, delivering, next_step, stepping_next, doing_next, doing, act_of}
+use Rattle.ct_machine.specs.Acts.{Turn, nothing, followed, moving_on, failing_if, moved_to, moving_from, is_granted}
+use Rattle.ct_machine.specs.Acts.{beginning_at, beginning, Done, next_number, has_room_for, arriving_at, arriving}
+use Rattle.ct_machine.specs.Acts.{blocked_by, beginning_unless, stepping_at, is_sent, stepping, delivering_first}
+use Rattle.ct_machine.specs.Acts.{messages_to, delivering, next_step, stepping_next, doing_next, doing, act_of}
 use Rattle.ct_machine.specs.Runs.{replay, IsAllowed}
 use Rattle.ct_machine.specs.Laws.{is_void, ActsWrite}
 use Rattle.ct_law.proofs.Blocks.{none_made}

@@ -102,7 +102,8 @@ last_place xs x number same = numbered-last (number + 1) xs x (omega (arith, sam
 pub added_command : (p : BookState) (command : Command) (pieces : ℕ) → numbered (length p.works + 1) (with_work p A (work.Cmd command) pieces).works ≡ Some (work.Cmd command)
 added_command p command pieces = last_place p.works (work.Cmd command) (length p.works) refl
 
-pub added_named : (p p' : BookState) (command : Command) (pieces number : ℕ) → p' ≡ with_work p A (work.Cmd command) pieces → number ≡ length p.works + 1 → command_in p'.works number ≡ command
+pub added_named : (p p' : BookState) (command : Command) (pieces number : ℕ)
+    → p' ≡ with_work p A (work.Cmd command) pieces → number ≡ length p.works + 1 → command_in p'.works number ≡ command
 added_named p p' command pieces number added same = rw (added, same) (ap command_by (added_command p command pieces))
 
 pub added_number : (p : BookState) (command : Command) (pieces : ℕ) → IsCommandNo (with_work p A (work.Cmd command) pieces) (length p.works + 1)

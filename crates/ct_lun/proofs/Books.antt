@@ -1,5 +1,6 @@
 -- What may be written into the book of a unit.
-use Rattle.std.proofs.Common.{◌≡◌, ℕ, List, Bool, true, false, Option, Some, None, IsSome, IsSomeAnd, ◌<◌, length, refl, sym, ap, ◌∙◌, subst}
+use Rattle.std.proofs.Common.{◌≡◌, ℕ, List, Bool, true, false, Option, Some, None, IsSome, IsSomeAnd, ◌<◌, length, refl}
+use Rattle.std.proofs.Common.{sym, ap, ◌∙◌, subst}
 use Rattle.ct_word.specs.Nexuses.{no_nexuses}
 use Rattle.ct_exec.specs.Controls.{Disk}
 use Rattle.ct_exec.specs.Executions.{Execution, execute, executed, refusal_of}

@@ -132,7 +132,9 @@ pub entry_ready : (blocks : ℕ) (command : Command) (pool : PoolState) (task : 
 unfolding plan_in profile_in room_for
 entry_ready blocks command pool task planned none leased need enough =
     let decoded : Result Cdb CdbFault = cdb_of command.cdb in
-    ready_first (length command.out) blocks (profile_by decoded command.out blocks) pool task (decoded_fits decoded command.out blocks) planned none leased need (omega (arith, decoded_room decoded command.out blocks, enough))
+    ready_first (length command.out) blocks (profile_by decoded command.out blocks) pool task
+    (decoded_fits decoded command.out blocks) planned none leased need
+    (omega (arith, decoded_room decoded command.out blocks, enough))
 
 -- the key of a new lease
 

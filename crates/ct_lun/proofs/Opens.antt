@@ -16,7 +16,8 @@ use Rattle.ct_lun.specs.Agreement.{AgreesWith}
 use Rattle.ct_lun.specs.Rooms.{task_room, room_of}
 use Rattle.ct_lun.proofs.Spent.{least_room}
 
-pub opened_agrees : (lun : LunNo) (depth pool : ℕ) (blocks : List (List ℕ)) (faults : ℕ) (room : Room) → length blocks ≤ MOST_BLOCKS → AgreesWith (opened_desk lun depth pool blocks faults) (empty_book room)
+pub opened_agrees : (lun : LunNo) (depth pool : ℕ) (blocks : List (List ℕ)) (faults : ℕ) (room : Room)
+    → length blocks ≤ MOST_BLOCKS → AgreesWith (opened_desk lun depth pool blocks faults) (empty_book room)
 opened_agrees lun depth pool blocks faults room few = record {
   base = record {
     few = few;

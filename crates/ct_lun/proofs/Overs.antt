@@ -31,7 +31,8 @@ use Rattle.ct_lun.specs.declared.said.Reached.TheVariants as reached
 use Rattle.ct_lun.specs.Reached.{reached_by}
 use Rattle.ct_lun.proofs.Lists.{each_drop, remove_set}
 use Rattle.ct_lun.proofs.Keeps.{slot_agrees}
-use Rattle.ct_lun.proofs.Turns.{difference_of, moving_at, moving_on_state, end_journal, cut_journal, moved_says, ended_answer, ends_ended, ends_cut}
+use Rattle.ct_lun.proofs.Turns.{difference_of, moving_at, moving_on_state, end_journal, cut_journal, moved_says}
+use Rattle.ct_lun.proofs.Turns.{ended_answer, ends_ended, ends_cut}
 use Rattle.ct_lun.proofs.Effects.{wrote_then, over_wrote}
 use Rattle.ct_lun.proofs.Moves.{slot_progress, moved_wrote, moved_few, moved_fewer}
 use Rattle.ct_lun.proofs.Spent.{left_spends, moved_spends}

@@ -1,5 +1,7 @@
 -- What the machine writes of a command that moves, or is over at once.
-use Rattle.std.proofs.Common.{◌≡◌, ℕ, zero, suc, ◌+◌, ◌≤◌, List, [], ◌∷◌, ◌++◌, Bool, true, false, ◌&&◌, ◌==◌, nat_le, if◌then◌else◌, Option, Some, None, option_map, length, take, drop, slice_get, slice_index_or, replicate, refl, sym, ap, ◌∙◌, arith, length-take, take-take}
+use Rattle.std.proofs.Common.{◌≡◌, ℕ, zero, suc, ◌+◌, ◌≤◌, List, [], ◌∷◌, ◌++◌, Bool, true, false, ◌&&◌, ◌==◌, nat_le}
+use Rattle.std.proofs.Common.{if◌then◌else◌, Option, Some, None, option_map, length, take, drop, slice_get}
+use Rattle.std.proofs.Common.{slice_index_or, replicate, refl, sym, ap, ◌∙◌, arith, length-take, take-take}
 use Rattle.std.specs.List.{list_any}
 use Rattle.ct_word.specs.declared.names.Nexus.{Nexus}
 use Rattle.ct_word.specs.Nexuses.{no_nexuses, contains, place_of}
@@ -22,7 +24,8 @@ use Rattle.ct_exec.specs.Executions.{good, reply_failed, plan_in}
 use Rattle.ct_machine.specs.declared.act.Answer.TheVariants as answer
 use Rattle.ct_machine.specs.States.{Stage, Task, State, at_stage, is_waiting, task_of, arrival_of}
 use Rattle.ct_machine.specs.Events.{after_events, is_cleared}
-use Rattle.ct_machine.specs.Acts.{Turn, followed, moving_on, moved_to, failing, moving_from, ends, moved_answer, line_by, clearing, clearing_all}
+use Rattle.ct_machine.specs.Acts.{Turn, followed, moving_on, moved_to, failing, moving_from, ends, moved_answer}
+use Rattle.ct_machine.specs.Acts.{line_by, clearing, clearing_all}
 use Rattle.ct_lun.specs.Calls.{told, replied, moved_journal}
 use Rattle.ct_lun.proofs.Lists.{equal_number}
 

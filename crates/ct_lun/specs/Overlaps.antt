@@ -19,7 +19,8 @@ is_overlapped_by nexus tag slot = is_same_nexus nexus slot.nexus && (tag.0 == sl
 -- why a command of this nexus and tag that needs so many blocks is refused, if it is
 abbrev pub cause_by : Desk → Nexus → Tag → ℕ → Option Reply
 cause_by desk nexus tag need =
-    if list_any (is_overlapped_by nexus tag) desk.slots then Some (check_condition desk.control OVERLAPPED_COMMANDS_ATTEMPTED None)
+    if list_any (is_overlapped_by nexus tag) desk.slots then Some
+    (check_condition desk.control OVERLAPPED_COMMANDS_ATTEMPTED None)
     else if nat_le desk.set.depth (length desk.set.commands) then Some (with_status TaskSetFull)
     else if nat_lt desk.pool.free need then Some (with_status Busy)
     else None

@@ -51,7 +51,8 @@ impl<B: Backend> Lun<B> {
     fn enter(&mut self, no: CmdNo, prepared: Prepared, book: &mut Book) -> Entered
         requires agrees { AgreesWith self.old book.old }
         requires command { IsCommandNo book.old no }
-        requires operations { prepared.plan.operations ≡ plan_in (length self.old.blocks) (command_in book.old.works no) }
+        requires operations { prepared.plan.operations ≡
+            plan_in (length self.old.blocks) (command_in book.old.works no) }
         requires need { prepared.plan.need ≡ need_in (length self.old.blocks) (command_in book.old.works no) }
         requires held { prepared.held ≡ held_by (length self.old.blocks) (command_in book.old.works no) false }
         requires fresh { IsNone (slot_of no self.old.slots) }

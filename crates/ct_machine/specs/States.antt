@@ -1,6 +1,7 @@
 -- The state of one logical unit with its two nodes. Which node a command runs at, and the messages between the
 -- nodes, are this project's own; the task set and its functions are those of SAM-5.
-use Rattle.std.specs.Prelude.{ℕ, ◌-◌, List, [], ◌∷◌, ◌++◌, length, map, Bool, true, false, not, ◌==◌, if◌then◌else◌, Option}
+use Rattle.std.specs.Prelude.{ℕ, ◌-◌, List, [], ◌∷◌, ◌++◌, length, map, Bool, true, false, not, ◌==◌, if◌then◌else◌}
+use Rattle.std.specs.Prelude.{Option}
 use Rattle.std.specs.List.{find, sum_by}
 use Rattle.ct_word.specs.declared.names.Ha.{Ha}
 use Rattle.ct_word.specs.declared.names.Node.{Node}

@@ -43,7 +43,8 @@ TouchesBoth a b = (block : ℕ) × ((Writes a block × Touches b block) ⊎ (Tou
 abbrev pub extents_of : List LbaRange → List Extent
 extents_of [] = []
 extents_of (range ∷ ranges) =
-    if range.count == 0 then extents_of ranges else record { first = range.lba; count = range.count } ∷ extents_of ranges
+    if range.count == 0 then extents_of ranges else record { first = range.lba; count = range.count } ∷ extents_of
+    ranges
 
 abbrev pub extents_if : Bool → List LbaRange → List Extent
 extents_if goes ranges = if goes then extents_of ranges else []

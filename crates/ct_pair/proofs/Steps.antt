@@ -18,7 +18,11 @@ use Rattle.ct_machine.specs.declared.act.Answer.TheVariants as answer
 use Rattle.ct_machine.specs.States.{Stage, Waiting, Here, Granted, There, Over, Task, State, disk_of, task_of}
 use Rattle.ct_machine.specs.Events.{after, is_cleared}
 use Rattle.ct_plan.specs.Pieces.{tried}
-use Rattle.ct_machine.specs.Acts.{Turn, nothing, says, replies, followed, arriving, arriving_at, next_number, has_room_for, turned_cause, entering_with, moving_on, failing, failing_if, moved_to, moving_from, clearing, clearing_all, numbers_of, ending_at_once, is_granted, beginning_at, beginning, Done, blocked_by, beginning_unless, stepping_at, is_sent, stepping, stepping_next}
+use Rattle.ct_machine.specs.Acts.{Turn, nothing, says, replies, followed, arriving, arriving_at, next_number}
+use Rattle.ct_machine.specs.Acts.{has_room_for, turned_cause, entering_with, moving_on, failing, failing_if, moved_to}
+use Rattle.ct_machine.specs.Acts.{moving_from, clearing, clearing_all, numbers_of, ending_at_once, is_granted}
+use Rattle.ct_machine.specs.Acts.{beginning_at, beginning, Done, blocked_by, beginning_unless, stepping_at, is_sent}
+use Rattle.ct_machine.specs.Acts.{stepping, stepping_next}
 use Rattle.ct_pair.specs.Pairs.{medium_cuts}
 
 pub medium_cuts-append : (es fs : List Logged) → medium_cuts (es ++ fs) ≡ medium_cuts es + medium_cuts fs

@@ -1,5 +1,8 @@
 -- A plan in pieces, and as a whole.
-use Rattle.std.proofs.Common.{◌≡◌, ℕ, zero, suc, ◌+◌, ◌*◌, ◌<◌, ◌≤◌, Bool, true, false, ◌&&◌, List, [], ◌∷◌, ◌++◌, length, length-append, sum, Option, Some, None, option_map, take, drop, set, get_or, refl, sym, ap, ◌∙◌, subst, arith, append_assoc, append-nil, drop-drop, take-append-drop, drop-set-lt, leb-true, add-zero}
+use Rattle.std.proofs.Common.{◌≡◌, ℕ, zero, suc, ◌+◌, ◌*◌, ◌<◌, ◌≤◌, Bool, true, false, ◌&&◌, List, [], ◌∷◌, ◌++◌}
+use Rattle.std.proofs.Common.{length, length-append, sum, Option, Some, None, option_map, take, drop, set, get_or, refl}
+use Rattle.std.proofs.Common.{sym, ap, ◌∙◌, subst, arith, append_assoc, append-nil, drop-drop, take-append-drop}
+use Rattle.std.proofs.Common.{drop-set-lt, leb-true, add-zero}
 use Rattle.std.proofs.Math.Seq.{take-add}
 use Rattle.std.specs.List.{concat, list_all}
 use Rattle.std.specs.Option.{option_or}
@@ -15,8 +18,10 @@ use Rattle.ct_cdb.specs.Ranges.{numbers_from, numbers_of, total, is_inside}
 use Rattle.ct_cdb.proofs.Numbers.{length-numbers_from, length-numbers_of}
 use Rattle.ct_plan.specs.declared.operation.BlockOp.{BlockOp}
 use Rattle.ct_plan.specs.Plans.{operation_of, operations_from, operations_in, planned}
-use Rattle.ct_plan.specs.Cells.{Cells, Progress, out_block, zero_block, with_block, after, after_all, difference_at, first_difference, unless, performed, joined_where, joined, in_pieces}
-use Rattle.ct_plan.specs.Effects.{Disk, Effect, EndsAs, blocks_at, spliced, blocks_from, filled, difference_among, after_phase, difference_of, ended_by, effect}
+use Rattle.ct_plan.specs.Cells.{Cells, Progress, out_block, zero_block, with_block, after, after_all, difference_at}
+use Rattle.ct_plan.specs.Cells.{first_difference, unless, performed, joined_where, joined, in_pieces}
+use Rattle.ct_plan.specs.Effects.{Disk, Effect, EndsAs, blocks_at, spliced, blocks_from, filled, difference_among}
+use Rattle.ct_plan.specs.Effects.{after_phase, difference_of, ended_by, effect}
 use Rattle.ct_plan.proofs.Performing.{after_all-append, performed-append, performed-all, size_after_all, perform_size}
 
 pub all_pieces : (out sizes : List ℕ) (operations : List BlockOp) (cells : Cells) → in_pieces out sizes operations cells ≡ performed out (take (sum sizes) operations) cells
@@ -34,58 +39,80 @@ abbrev cells_of : Disk → List ℕ → Cells
 cells_of disk got = record { blocks = disk; got = got }
 
 -- operations on blocks of two lists
-from_append : (phase : Phase) (count place : ℕ) (xs ys : List ℕ) → operations_from phase count place (xs ++ ys) ≡ operations_from phase count place xs ++ operations_from phase count (place + length xs) ys
+from_append : (phase : Phase) (count place : ℕ) (xs ys : List ℕ)
+    → operations_from phase count place (xs ++ ys)
+    ≡ operations_from phase count place xs ++ operations_from phase count (place + length xs) ys
 from_append phase count place [] ys = ap (λ (n : ℕ). operations_from phase count n ys) (omega arith)
 from_append phase count place (x ∷ xs) ys =
     let far : place + 1 + length xs ≡ place + length (x ∷ xs) = omega arith in
     ap (λ (ops : List BlockOp). operation_of phase count place x ∷ ops) (from_append phase count (place + 1) xs ys)
-    ∙ ap (λ (n : ℕ). operation_of phase count place x ∷ (operations_from phase count (place + 1) xs ++ operations_from phase count n ys)) far
+    ∙ ap (λ (n : ℕ). operation_of phase count place
+    x ∷ (operations_from phase count (place + 1) xs ++ operations_from phase count n ys)) far
 
 -- the blocks of a range, and those of the ranges behind it
 from_range : (phase : Phase) (count place : ℕ) (range : LbaRange) (ranges : List LbaRange)
-    → operations_from phase count place (numbers_of (range ∷ ranges)) ≡ operations_from phase count place (numbers_from range.lba range.count) ++ operations_from phase count (place + range.count) (numbers_of ranges)
+    → operations_from phase count place (numbers_of (range ∷ ranges))
+    ≡ operations_from phase count place (numbers_from range.lba range.count) ++ operations_from phase count
+    (place + range.count) (numbers_of ranges)
 from_range phase count place range ranges =
     from_append phase count place (numbers_from range.lba range.count) (numbers_of ranges)
-    ∙ ap (λ (n : ℕ). operations_from phase count place (numbers_from range.lba range.count) ++ operations_from phase count (place + n) (numbers_of ranges)) (length-numbers_from range.lba range.count)
+    ∙ ap (λ (n : ℕ). operations_from phase count place (numbers_from range.lba range.count) ++ operations_from phase
+    count (place + n) (numbers_of ranges)) (length-numbers_from range.lba range.count)
 
 -- Gets
 
 got_from : (out : List ℕ) (disk : Disk) (got : List ℕ) (count place lba n : ℕ) → lba + n ≤ length disk
-    → after_all out (operations_from phase.Get count place (numbers_from lba n)) (cells_of disk got) ≡ cells_of disk (got ++ concat (take n (drop lba disk)))
+    → after_all out (operations_from phase.Get count place (numbers_from lba n)) (cells_of disk got)
+    ≡ cells_of disk (got ++ concat (take n (drop lba disk)))
 got_from out disk got count place lba zero within = ap (cells_of disk) (sym (append-nil got))
 got_from out disk got count place lba (suc n) within =
     let block = get_or disk lba [] in
     let more = concat (take n (drop (lba + 1) disk)) in
     got_from out disk (got ++ block) count (place + 1) (lba + 1) n (omega arith)
-    ∙ ap (cells_of disk) (append_assoc got block more ∙ ap (λ rest. got ++ concat (take (suc n) rest)) (sym (drop_more disk lba [] (omega arith))))
+    ∙ ap (cells_of disk)
+    (append_assoc got block more
+    ∙ ap (λ rest. got ++ concat (take (suc n) rest)) (sym (drop_more disk lba [] (omega arith))))
 
-got_in : (out : List ℕ) (disk : Disk) (got : List ℕ) (count place : ℕ) (ranges : List LbaRange) → list_all (is_inside (length disk)) ranges ≡ true
-    → after_all out (operations_from phase.Get count place (numbers_of ranges)) (cells_of disk got) ≡ cells_of disk (got ++ concat (blocks_at ranges disk))
+got_in : (out : List ℕ) (disk : Disk) (got : List ℕ) (count place : ℕ) (ranges : List LbaRange)
+    → list_all (is_inside (length disk)) ranges ≡ true
+    → after_all out (operations_from phase.Get count place (numbers_of ranges)) (cells_of disk got)
+    ≡ cells_of disk (got ++ concat (blocks_at ranges disk))
 got_in out disk got count place [] inside = ap (cells_of disk) (sym (append-nil got))
 got_in out disk got count place (range ∷ ranges) inside =
     let parts = and_parts (is_inside (length disk) range) (list_all (is_inside (length disk)) ranges) inside in
     let here = take range.count (drop range.lba disk) in
     ap (λ (ops : List BlockOp). after_all out ops (cells_of disk got)) (from_range phase.Get count place range ranges)
-    ∙ after_all-append out (operations_from phase.Get count place (numbers_from range.lba range.count)) (operations_from phase.Get count (place + range.count) (numbers_of ranges)) (cells_of disk got)
-    ∙ ap (after_all out (operations_from phase.Get count (place + range.count) (numbers_of ranges))) (got_from out disk got count place range.lba range.count (leb-true (range.lba + range.count) (length disk) parts.0))
+    ∙ after_all-append out (operations_from phase.Get count place (numbers_from range.lba range.count))
+    (operations_from phase.Get count (place + range.count) (numbers_of ranges)) (cells_of disk got)
+    ∙ ap (after_all out (operations_from phase.Get count (place + range.count) (numbers_of ranges)))
+    (got_from out disk got count place range.lba range.count (leb-true (range.lba + range.count) (length disk) parts.0))
     ∙ got_in out disk (got ++ concat here) count (place + range.count) ranges parts.1
-    ∙ ap (cells_of disk) (append_assoc got (concat here) (concat (blocks_at ranges disk)) ∙ ap (λ (bytes : List ℕ). got ++ bytes) (sym (concat-append here (blocks_at ranges disk))))
+    ∙ ap (cells_of disk)
+    (append_assoc got (concat here) (concat (blocks_at ranges disk))
+    ∙ ap (λ (bytes : List ℕ). got ++ bytes) (sym (concat-append here (blocks_at ranges disk))))
 
 -- Puts, of any block at each place
 
-module _ (out : List ℕ) (phase : Phase) (count : ℕ) (block : ℕ → List ℕ) (puts : (place lba : ℕ) (cells : Cells) → after out (operation_of phase count place lba) cells ≡ with_block cells lba (block place)) where
+module _ (out : List ℕ) (phase : Phase) (count : ℕ) (block : ℕ → List ℕ)
+    (puts : (place lba : ℕ) (cells : Cells)
+    → after out (operation_of phase count place lba) cells ≡ with_block cells lba (block place)) where
   put_from : (disk : Disk) (got : List ℕ) (place lba n : ℕ) → lba + n ≤ length disk
-      → after_all out (operations_from phase count place (numbers_from lba n)) (cells_of disk got) ≡ cells_of (spliced lba (blocks_from block place n) disk) got
-  put_from disk got place lba zero within = ap (λ d. cells_of d got) (sym (take-append-drop lba disk) ∙ ap (λ n. take lba disk ++ drop n disk) (sym (add-zero lba)))
+      → after_all out (operations_from phase count place (numbers_from lba n)) (cells_of disk got)
+      ≡ cells_of (spliced lba (blocks_from block place n) disk) got
+  put_from disk got place lba zero within =
+      ap (λ d. cells_of d got)
+      (sym (take-append-drop lba disk) ∙ ap (λ n. take lba disk ++ drop n disk) (sym (add-zero lba)))
   put_from disk got place lba (suc n) within =
       let bytes = block place in
       let changed = set disk lba bytes in
       let blocks = blocks_from block (place + 1) n in
       let again = put_from changed got (place + 1) (lba + 1) n (omega (arith, length-set_disk disk lba bytes)) in
       let front : take (lba + 1) changed ≡ take lba disk ++ bytes ∷ [] = take_more_set disk lba bytes (omega arith) in
-      let back : drop (lba + 1 + length blocks) changed ≡ drop (lba + 1 + length blocks) disk = drop-set-lt (lba + 1 + length blocks) disk lba bytes (omega arith) in
+      let back : drop (lba + 1 + length blocks) changed ≡ drop (lba + 1 + length blocks) disk =
+      drop-set-lt (lba + 1 + length blocks) disk lba bytes (omega arith) in
       let far : lba + 1 + length blocks ≡ lba + suc (length blocks) = omega arith in
-      ap (after_all out (operations_from phase count (place + 1) (numbers_from (lba + 1) n))) (puts place lba (cells_of disk got))
+      ap (after_all out (operations_from phase count (place + 1) (numbers_from (lba + 1) n)))
+      (puts place lba (cells_of disk got))
       ∙ again
       ∙ ap (λ d. cells_of d got) (ap (λ d. d ++ (blocks ++ drop (lba + 1 + length blocks) changed)) front
       ∙ append_assoc (take lba disk) (bytes ∷ []) (blocks ++ drop (lba + 1 + length blocks) changed)
@@ -97,33 +124,44 @@ module _ (out : List ℕ) (phase : Phase) (count : ℕ) (block : ℕ → List �
       length-set_disk (x ∷ xs) zero b = refl
       length-set_disk (x ∷ xs) (suc i) b = ap suc (length-set_disk xs i b)
 
-  put_in : (disk : Disk) (got : List ℕ) (place : ℕ) (ranges : List LbaRange) → list_all (is_inside (length disk)) ranges ≡ true
-      → after_all out (operations_from phase count place (numbers_of ranges)) (cells_of disk got) ≡ cells_of (filled block place ranges disk) got
+  put_in : (disk : Disk) (got : List ℕ) (place : ℕ) (ranges : List LbaRange)
+      → list_all (is_inside (length disk)) ranges ≡ true
+      → after_all out (operations_from phase count place (numbers_of ranges)) (cells_of disk got)
+      ≡ cells_of (filled block place ranges disk) got
   put_in disk got place [] inside = refl
   put_in disk got place (range ∷ ranges) inside =
       let parts = and_parts (is_inside (length disk) range) (list_all (is_inside (length disk)) ranges) inside in
       let ops = operations_from phase count place (numbers_from range.lba range.count) in
       let now = spliced range.lba (blocks_from block place range.count) disk in
-      let first = put_from disk got place range.lba range.count (leb-true (range.lba + range.count) (length disk) parts.0) in
-      let size : length now ≡ length disk = sym (ap (λ (c : Cells). length c.blocks) first) ∙ size_after_all out ops (cells_of disk got) in
+      let first = put_from disk got place range.lba range.count
+      (leb-true (range.lba + range.count) (length disk) parts.0) in
+      let size : length now ≡ length disk =
+      sym (ap (λ (c : Cells). length c.blocks) first) ∙ size_after_all out ops (cells_of disk got) in
       ap (λ (all : List BlockOp). after_all out all (cells_of disk got)) (from_range phase count place range ranges)
-      ∙ after_all-append out ops (operations_from phase count (place + range.count) (numbers_of ranges)) (cells_of disk got)
+      ∙ after_all-append out ops (operations_from phase count (place + range.count) (numbers_of ranges))
+      (cells_of disk got)
       ∙ ap (after_all out (operations_from phase count (place + range.count) (numbers_of ranges))) first
       ∙ put_in now got (place + range.count) ranges (rw size parts.1)
 
 -- operations that compare nothing find no difference
-even_from : (out : List ℕ) (phase : Phase) (count place : ℕ) (lbas : List ℕ) (cells : Cells) → ((place lba : ℕ) (now : Cells) → difference_at out (operation_of phase count place lba) now ≡ None)
+even_from : (out : List ℕ) (phase : Phase) (count place : ℕ) (lbas : List ℕ) (cells : Cells)
+    → ((place lba : ℕ) (now : Cells) → difference_at out (operation_of phase count place lba) now ≡ None)
     → (performed out (operations_from phase count place lbas) cells).difference ≡ None
 even_from out phase count place [] cells none = refl
 even_from out phase count place (lba ∷ lbas) cells none =
-    ap (λ (d : Option ℕ). (unless d cells (performed out (operations_from phase count (place + 1) lbas) (after out (operation_of phase count place lba) cells))).difference) (none place lba cells)
+    ap (λ (d : Option ℕ). (unless d cells
+    (performed out (operations_from phase count (place + 1) lbas)
+    (after out (operation_of phase count place lba) cells))).difference) (none place lba cells)
     ∙ even_from out phase count (place + 1) lbas (after out (operation_of phase count place lba) cells) none
 
 -- Compares
 
-compared_cells : (out : List ℕ) (count place : ℕ) (lbas : List ℕ) (cells : Cells) → (performed out (operations_from phase.Compare count place lbas) cells).cells ≡ cells
+compared_cells : (out : List ℕ) (count place : ℕ) (lbas : List ℕ) (cells : Cells)
+    → (performed out (operations_from phase.Compare count place lbas) cells).cells ≡ cells
 compared_cells out count place [] cells = refl
-compared_cells out count place (lba ∷ lbas) cells = go (difference_at out (operation_of phase.Compare count place lba) cells) (compared_cells out count (place + 1) lbas cells)
+compared_cells out count place (lba ∷ lbas) cells =
+    go (difference_at out (operation_of phase.Compare count place lba) cells)
+    (compared_cells out count (place + 1) lbas cells)
   where
     rest : Progress
     rest = performed out (operations_from phase.Compare count (place + 1) lbas) cells
@@ -132,37 +170,50 @@ compared_cells out count place (lba ∷ lbas) cells = go (difference_at out (ope
     go None same = same
     go (Some offset) same = refl
 
-compared_next : (d : Option ℕ) (cells : Cells) (rest : Progress) → (unless d cells rest).difference ≡ option_or d rest.difference
+compared_next : (d : Option ℕ) (cells : Cells) (rest : Progress)
+    → (unless d cells rest).difference ≡ option_or d rest.difference
 compared_next None cells rest = refl
 compared_next (Some offset) cells rest = refl
 
 compared_from : (out : List ℕ) (cells : Cells) (count place lba n : ℕ) → lba + n ≤ length cells.blocks
-    → (performed out (operations_from phase.Compare count place (numbers_from lba n)) cells).difference ≡ difference_among (BLOCK_SIZE * place) (take n (drop lba cells.blocks)) (blocks_from (out_block out) place n)
+    → (performed out (operations_from phase.Compare count place (numbers_from lba n)) cells).difference
+    ≡ difference_among (BLOCK_SIZE * place) (take n (drop lba cells.blocks)) (blocks_from (out_block out) place n)
 compared_from out cells count place lba zero within = refl
 compared_from out cells count place lba (suc n) within =
-    let here : Option ℕ = option_map (λ at. BLOCK_SIZE * place + at) (first_difference (get_or cells.blocks lba []) (out_block out place)) in
+    let here : Option ℕ =
+    option_map (λ at. BLOCK_SIZE * place + at)
+    (first_difference (get_or cells.blocks lba []) (out_block out place)) in
     let step : BLOCK_SIZE * (place + 1) ≡ BLOCK_SIZE * place + BLOCK_SIZE = omega arith in
-    compared_next here cells (performed out (operations_from phase.Compare count (place + 1) (numbers_from (lba + 1) n)) cells)
+    compared_next here cells
+    (performed out (operations_from phase.Compare count (place + 1) (numbers_from (lba + 1) n)) cells)
     ∙ ap (option_or here) (compared_from out cells count (place + 1) (lba + 1) n (omega arith)
-    ∙ ap (λ (offset : ℕ). difference_among offset (take n (drop (lba + 1) cells.blocks)) (blocks_from (out_block out) (place + 1) n)) step)
-    ∙ ap (λ (rest : Disk). difference_among (BLOCK_SIZE * place) (take (suc n) rest) (blocks_from (out_block out) place (suc n))) (sym (drop_more cells.blocks lba [] (omega arith)))
+    ∙ ap (λ (offset : ℕ). difference_among offset (take n (drop (lba + 1) cells.blocks))
+    (blocks_from (out_block out) (place + 1) n)) step)
+    ∙ ap (λ (rest : Disk). difference_among (BLOCK_SIZE * place) (take (suc n) rest)
+    (blocks_from (out_block out) place (suc n))) (sym (drop_more cells.blocks lba [] (omega arith)))
 
 or_assoc : (a b c : Option ℕ) → option_or (option_or a b) c ≡ option_or a (option_or b c)
 or_assoc None b c = refl
 or_assoc (Some x) b c = refl
 
 among_append : (offset : ℕ) (xs ys more others : Disk) → length xs ≡ length more
-    → difference_among offset (xs ++ ys) (more ++ others) ≡ option_or (difference_among offset xs more) (difference_among (offset + BLOCK_SIZE * length xs) ys others)
+    → difference_among offset (xs ++ ys) (more ++ others)
+    ≡ option_or (difference_among offset xs more) (difference_among (offset + BLOCK_SIZE * length xs) ys others)
 among_append offset [] ys [] others same = ap (λ (n : ℕ). difference_among n ys others) (omega arith)
 among_append offset [] ys (z ∷ zs) others same = absurd (omega arith)
 among_append offset (x ∷ xs) ys [] others same = absurd (omega arith)
 among_append offset (x ∷ xs) ys (z ∷ zs) others same =
     let here : Option ℕ = option_map (λ at. offset + at) (first_difference x z) in
     let far : offset + BLOCK_SIZE + BLOCK_SIZE * length xs ≡ offset + BLOCK_SIZE * length (x ∷ xs) = omega arith in
-    ap (option_or here) (among_append (offset + BLOCK_SIZE) xs ys zs others (omega (arith, same)) ∙ ap (λ (n : ℕ). option_or (difference_among (offset + BLOCK_SIZE) xs zs) (difference_among n ys others)) far)
-    ∙ sym (or_assoc here (difference_among (offset + BLOCK_SIZE) xs zs) (difference_among (offset + BLOCK_SIZE * length (x ∷ xs)) ys others))
+    ap (option_or here)
+    (among_append (offset + BLOCK_SIZE) xs ys zs others (omega (arith, same))
+    ∙ ap (λ (n : ℕ). option_or (difference_among (offset + BLOCK_SIZE) xs zs) (difference_among n ys others))
+    far)
+    ∙ sym (or_assoc here (difference_among (offset + BLOCK_SIZE) xs zs)
+    (difference_among (offset + BLOCK_SIZE * length (x ∷ xs)) ys others))
 
-blocks_from-add : (block : ℕ → List ℕ) (place n m : ℕ) → blocks_from block place (n + m) ≡ blocks_from block place n ++ blocks_from block (place + n) m
+blocks_from-add : (block : ℕ → List ℕ) (place n m : ℕ)
+    → blocks_from block place (n + m) ≡ blocks_from block place n ++ blocks_from block (place + n) m
 blocks_from-add block place zero m =
     let none : 0 + m ≡ m = omega arith in
     let same : place ≡ place + 0 = omega arith in
@@ -178,33 +229,55 @@ length-blocks_from : (block : ℕ → List ℕ) (place n : ℕ) → length (bloc
 length-blocks_from block place zero = refl
 length-blocks_from block place (suc n) = ap suc (length-blocks_from block (place + 1) n)
 
-joined_difference : (first next : Progress) → (joined first next).difference ≡ option_or first.difference next.difference
+joined_difference : (first next : Progress)
+    → (joined first next).difference ≡ option_or first.difference next.difference
 joined_difference first next = go first.difference refl
   where
     go : (d : Option ℕ) → first.difference ≡ d → (joined_where d first next).difference ≡ option_or d next.difference
     go None e = refl
     go (Some offset) e = e
 
-compared_in : (out : List ℕ) (cells : Cells) (count place : ℕ) (ranges : List LbaRange) → list_all (is_inside (length cells.blocks)) ranges ≡ true
-    → (performed out (operations_from phase.Compare count place (numbers_of ranges)) cells).difference ≡ difference_among (BLOCK_SIZE * place) (blocks_at ranges cells.blocks) (blocks_from (out_block out) place (total ranges))
+compared_in : (out : List ℕ) (cells : Cells) (count place : ℕ) (ranges : List LbaRange)
+    → list_all (is_inside (length cells.blocks)) ranges ≡ true
+    → (performed out (operations_from phase.Compare count place (numbers_of ranges)) cells).difference
+    ≡ difference_among (BLOCK_SIZE * place) (blocks_at ranges cells.blocks)
+    (blocks_from (out_block out) place (total ranges))
 compared_in out cells count place [] inside = refl
 compared_in out cells count place (range ∷ ranges) inside =
-    let parts = and_parts (is_inside (length cells.blocks) range) (list_all (is_inside (length cells.blocks)) ranges) inside in
+    let parts = and_parts (is_inside (length cells.blocks) range) (list_all (is_inside (length cells.blocks)) ranges)
+    inside in
     let within = leb-true (range.lba + range.count) (length cells.blocks) parts.0 in
     let ops = operations_from phase.Compare count place (numbers_from range.lba range.count) in
     let rest = operations_from phase.Compare count (place + range.count) (numbers_of ranges) in
     let here = take range.count (drop range.lba cells.blocks) in
-    let size : length here ≡ range.count = omega (arith, length-take range.count (drop range.lba cells.blocks), length-drop range.lba cells.blocks, within) in
-    let far : BLOCK_SIZE * place + BLOCK_SIZE * length here ≡ BLOCK_SIZE * (place + range.count) = omega (arith, size) in
-    ap (λ (all : List BlockOp). (performed out all cells).difference) (from_range phase.Compare count place range ranges)
+    let size : length here ≡ range.count =
+    omega (
+      arith,
+      length-take range.count (drop range.lba cells.blocks),
+      length-drop range.lba cells.blocks,
+      within,
+    ) in
+    let far : BLOCK_SIZE * place + BLOCK_SIZE * length here ≡ BLOCK_SIZE * (place + range.count) =
+    omega (arith, size) in
+    ap (λ (all : List BlockOp). (performed out all cells).difference)
+    (from_range phase.Compare count place range ranges)
     ∙ ap (λ (p : Progress). p.difference) (performed-append out ops rest cells)
     ∙ joined_difference (performed out ops cells) (performed out rest (performed out ops cells).cells)
-    ∙ ap (λ (c : Cells). option_or (performed out ops cells).difference (performed out rest c).difference) (compared_cells out count place (numbers_from range.lba range.count) cells)
-    ∙ ap (λ (d : Option ℕ). option_or d (performed out rest cells).difference) (compared_from out cells count place range.lba range.count within)
-    ∙ ap (option_or (difference_among (BLOCK_SIZE * place) here (blocks_from (out_block out) place range.count))) (compared_in out cells count (place + range.count) ranges parts.1)
-    ∙ ap (λ (n : ℕ). option_or (difference_among (BLOCK_SIZE * place) here (blocks_from (out_block out) place range.count)) (difference_among n (blocks_at ranges cells.blocks) (blocks_from (out_block out) (place + range.count) (total ranges)))) (sym far)
-    ∙ sym (among_append (BLOCK_SIZE * place) here (blocks_at ranges cells.blocks) (blocks_from (out_block out) place range.count) (blocks_from (out_block out) (place + range.count) (total ranges)) (size ∙ sym (length-blocks_from (out_block out) place range.count)))
-    ∙ ap (difference_among (BLOCK_SIZE * place) (blocks_at (range ∷ ranges) cells.blocks)) (sym (blocks_from-add (out_block out) place range.count (total ranges)))
+    ∙ ap (λ (c : Cells). option_or (performed out ops cells).difference (performed out rest c).difference)
+    (compared_cells out count place (numbers_from range.lba range.count) cells)
+    ∙ ap (λ (d : Option ℕ). option_or d (performed out rest cells).difference)
+    (compared_from out cells count place range.lba range.count within)
+    ∙ ap (option_or (difference_among (BLOCK_SIZE * place) here (blocks_from (out_block out) place range.count)))
+    (compared_in out cells count (place + range.count) ranges parts.1)
+    ∙ ap (λ (n : ℕ). option_or
+    (difference_among (BLOCK_SIZE * place) here (blocks_from (out_block out) place range.count))
+    (difference_among n (blocks_at ranges cells.blocks)
+    (blocks_from (out_block out) (place + range.count) (total ranges)))) (sym far)
+    ∙ sym (among_append (BLOCK_SIZE * place) here (blocks_at ranges cells.blocks)
+    (blocks_from (out_block out) place range.count) (blocks_from (out_block out) (place + range.count) (total ranges))
+    (size ∙ sym (length-blocks_from (out_block out) place range.count)))
+    ∙ ap (difference_among (BLOCK_SIZE * place) (blocks_at (range ∷ ranges) cells.blocks))
+    (sym (blocks_from-add (out_block out) place range.count (total ranges)))
 
 -- A phase, and phases one after another
 
@@ -214,32 +287,54 @@ Comes out ranges phase cells =
     × ((performed out (operations_in phase ranges) cells).cells ≡ after_phase out ranges phase cells)
 
 -- a phase that compares nothing
-evenly : (out : List ℕ) (ranges : List LbaRange) (phase : Phase) (cells : Cells) → ((place lba : ℕ) (now : Cells) → difference_at out (operation_of phase (total ranges) place lba) now ≡ None)
-    → difference_of out ranges phase cells ≡ None → after_all out (operations_in phase ranges) cells ≡ after_phase out ranges phase cells → Comes out ranges phase cells
+evenly : (out : List ℕ) (ranges : List LbaRange) (phase : Phase) (cells : Cells)
+    → ((place lba : ℕ) (now : Cells) → difference_at out (operation_of phase (total ranges) place lba) now ≡ None)
+    → difference_of out ranges phase cells ≡ None
+    → after_all out (operations_in phase ranges) cells ≡ after_phase out ranges phase cells
+    → Comes out ranges phase cells
 evenly out ranges phase cells none even same =
-    let all = performed-all out (operations_in phase ranges) cells (even_from out phase (total ranges) 0 (numbers_of ranges) cells none) in
+    let all = performed-all out (operations_in phase ranges) cells
+    (even_from out phase (total ranges) 0 (numbers_of ranges) cells none) in
     (ap (λ (p : Progress). p.difference) all ∙ sym even, ap (λ (p : Progress). p.cells) all ∙ same)
 
-looked : (out : List ℕ) (count place : ℕ) (lbas : List ℕ) (cells : Cells) → after_all out (operations_from phase.Look count place lbas) cells ≡ cells
+looked : (out : List ℕ) (count place : ℕ) (lbas : List ℕ) (cells : Cells)
+    → after_all out (operations_from phase.Look count place lbas) cells ≡ cells
 looked out count place [] cells = refl
 looked out count place (lba ∷ lbas) cells = looked out count (place + 1) lbas cells
 
-phase_comes : (out : List ℕ) (ranges : List LbaRange) (phase : Phase) (cells : Cells) → list_all (is_inside (length cells.blocks)) ranges ≡ true → Comes out ranges phase cells
-phase_comes out ranges phase.Get cells inside = evenly out ranges phase.Get cells (λ place lba now. refl) refl (got_in out cells.blocks cells.got (total ranges) 0 ranges inside)
-phase_comes out ranges phase.Look cells inside = evenly out ranges phase.Look cells (λ place lba now. refl) refl (looked out (total ranges) 0 (numbers_of ranges) cells)
+phase_comes : (out : List ℕ) (ranges : List LbaRange) (phase : Phase) (cells : Cells)
+    → list_all (is_inside (length cells.blocks)) ranges ≡ true → Comes out ranges phase cells
+phase_comes out ranges phase.Get cells inside =
+    evenly out ranges phase.Get cells (λ place lba now. refl) refl
+    (got_in out cells.blocks cells.got (total ranges) 0 ranges inside)
+phase_comes out ranges phase.Look cells inside =
+    evenly out ranges phase.Look cells (λ place lba now. refl) refl
+    (looked out (total ranges) 0 (numbers_of ranges) cells)
 phase_comes out ranges phase.Put cells inside =
-    evenly out ranges phase.Put cells (λ place lba now. refl) refl (put_in out phase.Put (total ranges) (out_block out) (λ place lba now. refl) cells.blocks cells.got 0 ranges inside)
+    evenly out ranges phase.Put cells (λ place lba now. refl) refl
+    (put_in out phase.Put (total ranges) (out_block out) (λ place lba now. refl) cells.blocks cells.got 0 ranges
+    inside)
 phase_comes out ranges phase.PutSecondHalf cells inside =
     evenly out ranges phase.PutSecondHalf cells (λ place lba now. refl) refl
-    (put_in out phase.PutSecondHalf (total ranges) (λ place. out_block out (total ranges + place)) (λ place lba now. refl) cells.blocks cells.got 0 ranges inside)
+    (put_in out phase.PutSecondHalf (total ranges) (λ place. out_block out (total ranges + place))
+    (λ place lba now. refl) cells.blocks cells.got 0 ranges inside)
 phase_comes out ranges phase.PutSame cells inside =
-    evenly out ranges phase.PutSame cells (λ place lba now. refl) refl (put_in out phase.PutSame (total ranges) (λ place. out_block out 0) (λ place lba now. refl) cells.blocks cells.got 0 ranges inside)
+    evenly out ranges phase.PutSame cells (λ place lba now. refl) refl
+    (put_in out phase.PutSame (total ranges) (λ place. out_block out 0) (λ place lba now. refl) cells.blocks
+    cells.got 0 ranges inside)
 phase_comes out ranges phase.Zero cells inside =
-    evenly out ranges phase.Zero cells (λ place lba now. refl) refl (put_in out phase.Zero (total ranges) (λ place. zero_block) (λ place lba now. refl) cells.blocks cells.got 0 ranges inside)
-phase_comes out ranges phase.Compare cells inside = (compared_in out cells (total ranges) 0 ranges inside, compared_cells out (total ranges) 0 (numbers_of ranges) cells)
+    evenly out ranges phase.Zero cells (λ place lba now. refl) refl
+    (put_in out phase.Zero (total ranges) (λ place. zero_block) (λ place lba now. refl) cells.blocks cells.got 0
+    ranges inside)
+phase_comes out ranges phase.Compare cells inside = (
+  compared_in out cells (total ranges) 0 ranges inside,
+  compared_cells out (total ranges) 0 (numbers_of ranges)
+      cells,
+)
 
 -- a phase that finds a difference changes nothing
-phase_still : (out : List ℕ) (ranges : List LbaRange) (phase : Phase) (cells : Cells) (offset : ℕ) → difference_of out ranges phase cells ≡ Some offset → after_phase out ranges phase cells ≡ cells
+phase_still : (out : List ℕ) (ranges : List LbaRange) (phase : Phase) (cells : Cells) (offset : ℕ)
+    → difference_of out ranges phase cells ≡ Some offset → after_phase out ranges phase cells ≡ cells
 phase_still out ranges phase.Get cells offset found = absurd (cc)
 phase_still out ranges phase.Look cells offset found = refl
 phase_still out ranges phase.Put cells offset found = absurd (cc)
@@ -249,12 +344,16 @@ phase_still out ranges phase.Zero cells offset found = absurd (cc)
 phase_still out ranges phase.Compare cells offset found = refl
 
 -- the operations of phases end as the phases do at once
-pub whole_phases : (out : List ℕ) (ranges : List LbaRange) (phases : List Phase) (cells : Cells) → list_all (is_inside (length cells.blocks)) ranges ≡ true → EndsAs (performed out (planned phases ranges) cells) (effect out ranges phases cells)
+pub whole_phases : (out : List ℕ) (ranges : List LbaRange) (phases : List Phase) (cells : Cells)
+    → list_all (is_inside (length cells.blocks)) ranges ≡ true
+    → EndsAs (performed out (planned phases ranges) cells) (effect out ranges phases cells)
 whole_phases out ranges [] cells inside = record { difference = refl; cells = refl }
 whole_phases out ranges (phase ∷ phases) cells inside =
     let comes = phase_comes out ranges phase cells inside in
-    let size : length (after_phase out ranges phase cells).blocks ≡ length cells.blocks = sym (ap (λ (c : Cells). length c.blocks) comes.1) ∙ perform_size out (operations_in phase ranges) cells in
-    go comes (whole_phases out ranges phases (after_phase out ranges phase cells) (rw size inside)) (difference_of out ranges phase cells) refl
+    let size : length (after_phase out ranges phase cells).blocks ≡ length cells.blocks =
+    sym (ap (λ (c : Cells). length c.blocks) comes.1) ∙ perform_size out (operations_in phase ranges) cells in
+    go comes (whole_phases out ranges phases (after_phase out ranges phase cells) (rw size inside))
+    (difference_of out ranges phase cells) refl
   where
     ops : List BlockOp
     ops = operations_in phase ranges
@@ -268,16 +367,22 @@ whole_phases out ranges (phase ∷ phases) cells inside =
     after : Cells
     after = after_phase out ranges phase cells
 
-    go : Comes out ranges phase cells → EndsAs (performed out (planned phases ranges) after) (effect out ranges phases after) → (d : Option ℕ) → difference_of out ranges phase cells ≡ d
-        → EndsAs (performed out (planned (phase ∷ phases) ranges) cells) (ended_by d cells (effect out ranges phases after))
+    go : Comes out ranges phase cells
+        → EndsAs (performed out (planned phases ranges) after) (effect out ranges phases after) → (d : Option ℕ)
+        → difference_of out ranges phase cells ≡ d
+        → EndsAs (performed out (planned (phase ∷ phases) ranges) cells)
+        (ended_by d cells (effect out ranges phases after))
     go comes rest None e =
-        let so = performed-append out ops (planned phases ranges) cells ∙ ap (λ (d : Option ℕ). joined_where d first next) (comes.0 ∙ e) ∙ ap (λ (c : Cells). joined_where None first (performed out (planned phases ranges) c)) comes.1 in
+        let so = performed-append out ops (planned phases ranges) cells
+        ∙ ap (λ (d : Option ℕ). joined_where d first next) (comes.0 ∙ e)
+        ∙ ap (λ (c : Cells). joined_where None first (performed out (planned phases ranges) c)) comes.1 in
         record {
           difference = ap (λ (p : Progress). p.difference) so ∙ rest.difference;
           cells = ap (λ (p : Progress). p.cells) so ∙ rest.cells;
         }
     go comes rest (Some offset) e =
-        let so = performed-append out ops (planned phases ranges) cells ∙ ap (λ (d : Option ℕ). joined_where d first next) (comes.0 ∙ e) in
+        let so = performed-append out ops (planned phases ranges) cells
+        ∙ ap (λ (d : Option ℕ). joined_where d first next) (comes.0 ∙ e) in
         record {
           difference = ap (λ (p : Progress). p.difference) so ∙ comes.0 ∙ e;
           cells = ap (λ (p : Progress). p.cells) so ∙ comes.1 ∙ phase_still out ranges phase cells offset e;

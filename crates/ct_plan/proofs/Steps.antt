@@ -1,5 +1,8 @@
 -- What one operation does, and a piece of several.
-use Rattle.std.proofs.Common.{◌≡◌, ℕ, zero, suc, ◌+◌, ◌-◌, ◌*◌, ◌<◌, ◌≤◌, List, [], ◌∷◌, ◌++◌, length, take, drop, set, get_or, slice_get, Option, None, Some, Bool, true, false, is_some, cond, option_map, ◌==◌, if◌then◌else◌, rules, refl, sym, ap, ◌∙◌, subst, arith, add-one, length-take, take-take, take-append-drop, length-append, length-set}
+use Rattle.std.proofs.Common.{◌≡◌, ℕ, zero, suc, ◌+◌, ◌-◌, ◌*◌, ◌<◌, ◌≤◌, List, [], ◌∷◌, ◌++◌, length, take, drop, set}
+use Rattle.std.proofs.Common.{get_or, slice_get, Option, None, Some, Bool, true, false, is_some, cond, option_map, ◌==◌}
+use Rattle.std.proofs.Common.{if◌then◌else◌, rules, refl, sym, ap, ◌∙◌, subst, arith, add-one, length-take, take-take}
+use Rattle.std.proofs.Common.{take-append-drop, length-append, length-set}
 use Rattle.std.specs.List.{All}
 use Rattle.std.proofs.lemmas.List.Sums.{sum_by-set}
 use Rattle.ct_word.specs.Kept.{Kept}
@@ -14,8 +17,10 @@ use Rattle.ct_plan.specs.Plans.{gets_among}
 use Rattle.ct_plan.specs.Cells.{Cells, Progress, after, after_all, difference_at, unless, performed, joined_where}
 use Rattle.ct_plan.specs.Tasks.{IsReady, IsInside, IsCovered, left, cells_of}
 use Rattle.ct_plan.specs.Pieces.{Makes, Performs, Uses, Advances, fault_of, fault_behind, tried, unfailed_end, end_of}
-use Rattle.ct_plan.proofs.Lists.{slice_get-drop, slice_get-within, take-one_more, drop-at, gets_among-cons, gets_among-append}
-use Rattle.ct_plan.proofs.Performing.{after_all-append, performed-on, performed-stopped, performed-all, performed-cells, made_within, difference_still}
+use Rattle.ct_plan.proofs.Lists.{slice_get-drop, slice_get-within, take-one_more, drop-at, gets_among-cons}
+use Rattle.ct_plan.proofs.Lists.{gets_among-append}
+use Rattle.ct_plan.proofs.Performing.{after_all-append, performed-on, performed-stopped, performed-all, performed-cells}
+use Rattle.ct_plan.proofs.Performing.{made_within, difference_still}
 
 module _ (out : List ℕ) (old : Task) (before : List (List ℕ)) where
   pub makes_nothing : Makes out [] old old before before
@@ -29,7 +34,8 @@ module _ (out : List ℕ) (old : Task) (before : List (List ℕ)) where
     size = refl;
   }
 
-  pub makes_one : (operation : BlockOp) (body : Kept ℕ) (after : List (List ℕ)) → Performs out operation old.body body before after
+  pub makes_one : (operation : BlockOp) (body : Kept ℕ) (after : List (List ℕ))
+      → Performs out operation old.body body before after
       → Makes out (operation ∷ []) old (record old { body = body; done = old.done + 1 }) before after
   makes_one operation body after performs = record {
     plan = refl;
@@ -120,7 +126,8 @@ module _ (out : List ℕ) (pieces : List BlockOp) (start : Cells) (count : ℕ) 
   abbrev one : Progress
   one = performed out (operation ∷ []) now
 
-  behind_one : (performed out (take count pieces) start).difference ≡ None → now ≡ after_all out (take count pieces) start → slice_get pieces count ≡ Some operation
+  behind_one : (performed out (take count pieces) start).difference ≡ None
+      → now ≡ after_all out (take count pieces) start → slice_get pieces count ≡ Some operation
       → performed out (take (suc count) pieces) start ≡ record one { made = count + one.made }
   behind_one even here found =
       let first = performed-all out (take count pieces) start even in
@@ -129,22 +136,33 @@ module _ (out : List ℕ) (pieces : List BlockOp) (start : Cells) (count : ℕ) 
       ap (λ (ops : List BlockOp). performed out ops start) (take-one_more count pieces operation found)
       ∙ performed-on out (take count pieces) (operation ∷ []) start even
       ∙ ap (λ (p : Progress). joined_where None p (performed out (operation ∷ []) p.cells)) first
-      ∙ ap (λ (n : ℕ). joined_where None (record { made = n; difference = None; cells = after_all out (take count pieces) start }) (performed out (operation ∷ []) (after_all out (take count pieces) start))) size
-      ∙ ap (λ (c : Cells). record (performed out (operation ∷ []) c) { made = count + (performed out (operation ∷ []) c).made }) (sym here)
+      ∙ ap (λ (n : ℕ). joined_where None
+      (record { made = n; difference = None; cells = after_all out (take count pieces) start })
+      (performed out (operation ∷ []) (after_all out (take count pieces) start))) size
+      ∙ ap (λ (c : Cells). record (performed out (operation ∷ []) c)
+      { made = count + (performed out (operation ∷ []) c).made }) (sym here)
 
-  pub still_even : (performed out (take count pieces) start).difference ≡ None → now ≡ after_all out (take count pieces) start → slice_get pieces count ≡ Some operation → difference_at out operation now ≡ None
+  pub still_even : (performed out (take count pieces) start).difference ≡ None
+      → now ≡ after_all out (take count pieces) start → slice_get pieces count ≡ Some operation
+      → difference_at out operation now ≡ None
       → (performed out (take (count + 1) pieces) start).difference ≡ None
   still_even even here found none =
       rw add-one (ap (λ (p : Progress). p.difference) (behind_one even here found)
       ∙ ap (λ (d : Option ℕ). (unless d now (performed out [] (after out operation now))).difference) none)
 
-  pub differs_now : (offset : ℕ) → (performed out (take count pieces) start).difference ≡ None → now ≡ after_all out (take count pieces) start → slice_get pieces count ≡ Some operation → difference_at out operation now ≡ Some offset
+  pub differs_now : (offset : ℕ) → (performed out (take count pieces) start).difference ≡ None
+      → now ≡ after_all out (take count pieces) start → slice_get pieces count ≡ Some operation
+      → difference_at out operation now ≡ Some offset
       → performed out pieces start ≡ record { made = count + 1; difference = Some offset; cells = now }
   differs_now offset even here found differs =
-      let front : performed out (take (suc count) pieces) start ≡ record { made = count + 1; difference = Some offset; cells = now } =
-      behind_one even here found ∙ ap (λ (d : Option ℕ). record (unless d now (performed out [] (after out operation now))) { made = count + (unless d now (performed out [] (after out operation now))).made }) differs in
+      let front : performed out (take (suc count) pieces) start
+      ≡ record { made = count + 1; difference = Some offset; cells = now } =
+      behind_one even here found
+      ∙ ap (λ (d : Option ℕ). record (unless d now (performed out [] (after out operation now)))
+      { made = count + (unless d now (performed out [] (after out operation now))).made }) differs in
       ap (λ (ops : List BlockOp). performed out ops start) (sym (take-append-drop (suc count) pieces))
-      ∙ performed-stopped out (take (suc count) pieces) (drop (suc count) pieces) start offset (ap (λ (p : Progress). p.difference) front)
+      ∙ performed-stopped out (take (suc count) pieces) (drop (suc count) pieces) start offset
+      (ap (λ (p : Progress). p.difference) front)
       ∙ front
 
 -- a piece that made all of its operations
@@ -152,7 +170,8 @@ module _ (out : List ℕ) (pieces : List BlockOp) (old new : Task) (before after
   abbrev cells : Cells
   cells = cells_of before old
 
-  pub advances_whole : (count : ℕ) → Makes out pieces old new before after → (performed out pieces cells).difference ≡ None → length pieces ≡ count
+  pub advances_whole : (count : ℕ) → Makes out pieces old new before after
+      → (performed out pieces cells).difference ≡ None → length pieces ≡ count
       → Advances out pieces old new before after (record { moved = count; end = unfailed_end new }) (fault_behind count (unfailed_end new))
   advances_whole count made even all =
       let far = performed-all out pieces cells even in
@@ -174,7 +193,9 @@ module _ (out : List ℕ) (pieces : List BlockOp) (old new : Task) (before after
       no_fault false = refl
 
   -- a piece that the medium ended, behind some of its pieces
-  pub advances_fault : (count : ℕ) (operation : BlockOp) (task : Task) (blocks : List (List ℕ)) → Makes out (take count pieces) old task before blocks → (performed out (take count pieces) cells).difference ≡ None
+  pub advances_fault : (count : ℕ) (operation : BlockOp) (task : Task) (blocks : List (List ℕ))
+      → Makes out (take count pieces) old task before blocks
+      → (performed out (take count pieces) cells).difference ≡ None
       → new ≡ task → after ≡ blocks → slice_get pieces count ≡ Some operation
       → Advances out pieces old new before after (record { moved = count; end = Some (fault_of operation) }) (fault_behind count (Some (fault_of operation)))
   advances_fault count operation task blocks made even new_is after_is found =
@@ -201,13 +222,18 @@ module _ (out : List ℕ) (pieces : List BlockOp) (old new : Task) (before after
       is_there (operations.Compare lba place) = refl
 
   -- a piece that stopped behind a difference
-  pub advances_differs : (count : ℕ) (operation : BlockOp) (task : Task) (between : List (List ℕ)) (offset : ℕ) → Makes out (take count pieces) old task before between
-      → (performed out (take count pieces) cells).difference ≡ None → slice_get pieces count ≡ Some operation → difference_at out operation (cells_of between task) ≡ Some offset
-      → Makes out (operation ∷ []) task new between after → Advances out pieces old new before after (record { moved = count + 1; end = Some (Miscompare offset) }) None
+  pub advances_differs : (count : ℕ) (operation : BlockOp) (task : Task) (between : List (List ℕ)) (offset : ℕ)
+      → Makes out (take count pieces) old task before between
+      → (performed out (take count pieces) cells).difference ≡ None → slice_get pieces count ≡ Some operation
+      → difference_at out operation (cells_of between task) ≡ Some offset
+      → Makes out (operation ∷ []) task new between after
+      → Advances out pieces old new before after (record { moved = count + 1; end = Some (Miscompare offset) }) None
   advances_differs count operation task between offset made even found differs last =
-      let far = differs_now out pieces cells count operation (cells_of between task) offset even made.cells found differs in
+      let far = differs_now out pieces cells count operation (cells_of between task) offset even made.cells found
+      differs in
       let within = slice_get-within pieces count operation found in
-      let same : cells_of after new ≡ cells_of between task = last.cells ∙ difference_still out operation (cells_of between task) offset differs in
+      let same : cells_of after new ≡ cells_of between task =
+      last.cells ∙ difference_still out operation (cells_of between task) offset differs in
       record {
         moved = sym (ap (λ (p : Progress). p.made) far);
         done = omega (arith, made.done, last.done, length-take count pieces, within);
@@ -225,7 +251,8 @@ module _ (out : List ℕ) (pieces : List BlockOp) (old new : Task) (before after
 module _ (out : List ℕ) (pieces : List BlockOp) (old new : Task) (before after : List (List ℕ)) (piece : Piece) where
   pub moved_within : (fault : Option ℕ) → Advances out pieces old new before after piece fault → piece.moved ≤ length pieces
   moved_within None advanced = omega (arith, advanced.moved, made_within out pieces (cells_of before old))
-  moved_within (Some place) advanced = omega (arith, advanced.moved, made_within out (take place pieces) (cells_of before old), length-take place pieces)
+  moved_within (Some place) advanced =
+      omega (arith, advanced.moved, made_within out (take place pieces) (cells_of before old), length-take place pieces)
 
   -- the operations that a piece made are a front of those asked for
   pub cells_moved : (fault : Option ℕ) → Advances out pieces old new before after piece fault → cells_of after new ≡ after_all out (take piece.moved pieces) (cells_of before old)
@@ -235,8 +262,10 @@ module _ (out : List ℕ) (pieces : List BlockOp) (old new : Task) (before after
       ∙ ap (λ items. record { blocks = far.cells.blocks; got = items }) advanced.got
       ∙ performed-cells out (tried pieces fault) (cells_of before old)
       ∙ ap (λ (n : ℕ). after_all out (take n (tried pieces fault)) (cells_of before old)) (sym advanced.moved)
-      ∙ ap (λ (ops : List BlockOp). after_all out ops (cells_of before old)) (front fault (rw advanced.moved (made_within out (tried pieces fault) (cells_of before old))))
+      ∙ ap (λ (ops : List BlockOp). after_all out ops (cells_of before old))
+      (front fault (rw advanced.moved (made_within out (tried pieces fault) (cells_of before old))))
     where
-      front : (fault : Option ℕ) → piece.moved ≤ length (tried pieces fault) → take piece.moved (tried pieces fault) ≡ take piece.moved pieces
+      front : (fault : Option ℕ) → piece.moved ≤ length (tried pieces fault)
+          → take piece.moved (tried pieces fault) ≡ take piece.moved pieces
       front None within = refl
       front (Some place) within = take-take piece.moved place pieces (omega (arith, within, length-take place pieces))

@@ -1,5 +1,6 @@
 -- What block operations do: to the blocks of a disk, and to the data of the command that makes them.
-use Rattle.std.specs.Prelude.{ℕ, suc, ◌+◌, ◌*◌, List, [], ◌∷◌, ◌++◌, take, drop, replicate, slice_set, slice_index_or, Option, None, Some, option_map, not, ◌==◌, position}
+use Rattle.std.specs.Prelude.{ℕ, suc, ◌+◌, ◌*◌, List, [], ◌∷◌, ◌++◌, take, drop, replicate, slice_set, slice_index_or}
+use Rattle.std.specs.Prelude.{Option, None, Some, option_map, not, ◌==◌, position}
 use Rattle.std.specs.List.{zip}
 use Rattle.ct_plan.specs.declared.operation.BlockOp.{BlockOp}
 use Rattle.ct_plan.specs.declared.operation.BlockOp.TheVariants as operations

@@ -1,6 +1,7 @@
--- What a command does at once, by its row: to the blocks of a disk, and to the data that it returns. Nothing here speaks of
--- operations, of which its plan is made.
-use Rattle.std.specs.Prelude.{◌≡◌, ℕ, zero, suc, ◌+◌, ◌*◌, List, [], ◌∷◌, ◌++◌, take, drop, length, Option, None, Some, option_map}
+-- What a command does at once, by its row: to the blocks of a disk, and to the data that it returns. Nothing here
+-- speaks of operations, of which its plan is made.
+use Rattle.std.specs.Prelude.{◌≡◌, ℕ, zero, suc, ◌+◌, ◌*◌, List, [], ◌∷◌, ◌++◌, take, drop, length, Option, None, Some}
+use Rattle.std.specs.Prelude.{option_map}
 use Rattle.std.specs.Option.{option_or}
 use Rattle.std.specs.List.{concat}
 use Rattle.ct_word.specs.declared.limit.TheConstants.{BLOCK_SIZE}
@@ -39,7 +40,8 @@ abbrev pub difference_among : ℕ → Disk → Disk → Option ℕ
 difference_among offset [] others = None
 difference_among offset (block ∷ blocks) [] = None
 difference_among offset (block ∷ blocks) (other ∷ others) =
-    option_or (option_map (λ at. offset + at) (first_difference block other)) (difference_among (offset + BLOCK_SIZE) blocks others)
+    option_or (option_map (λ at. offset + at) (first_difference block other))
+    (difference_among (offset + BLOCK_SIZE) blocks others)
 
 -- what a command did that a difference ended, or that came to its end
 pub record Effect : Type 0 where
@@ -55,7 +57,8 @@ abbrev pub after_phase : List ℕ → List LbaRange → Phase → Cells → Cell
 after_phase out ranges phase.Get cells = record cells { got = cells.got ++ concat (blocks_at ranges cells.blocks) }
 after_phase out ranges phase.Look cells = cells
 after_phase out ranges phase.Put cells = with_blocks cells (filled (out_block out) 0 ranges cells.blocks)
-after_phase out ranges phase.PutSecondHalf cells = with_blocks cells (filled (λ place. out_block out (total ranges + place)) 0 ranges cells.blocks)
+after_phase out ranges phase.PutSecondHalf cells =
+    with_blocks cells (filled (λ place. out_block out (total ranges + place)) 0 ranges cells.blocks)
 after_phase out ranges phase.PutSame cells = with_blocks cells (filled (λ place. out_block out 0) 0 ranges cells.blocks)
 after_phase out ranges phase.Zero cells = with_blocks cells (filled (λ place. zero_block) 0 ranges cells.blocks)
 after_phase out ranges phase.Compare cells = cells
@@ -79,7 +82,8 @@ ended_by (Some offset) cells others = record { difference = Some offset; cells =
 abbrev pub effect : List ℕ → List LbaRange → List Phase → Cells → Effect
 effect out ranges [] cells = record { difference = None; cells = cells }
 effect out ranges (phase ∷ phases) cells =
-    ended_by (difference_of out ranges phase cells) cells (effect out ranges phases (after_phase out ranges phase cells))
+    ended_by (difference_of out ranges phase cells) cells
+    (effect out ranges phases (after_phase out ranges phase cells))
 
 -- operations come as far as an effect at once: to the same difference, with the same blocks and data
 pub record EndsAs (progress : Progress) (effect : Effect) : Type 0 where

@@ -1,5 +1,6 @@
 -- What a piece of a plan does: some of its operations, one after another.
-use Rattle.std.specs.Prelude.{◌≡◌, ℕ, ◌+◌, ◌*◌, ◌<◌, ◌==◌, Bool, true, false, List, [], ◌∷◌, length, take, slice_get, Option, None, Some, IfSome, option_map, if◌then◌else◌}
+use Rattle.std.specs.Prelude.{◌≡◌, ℕ, ◌+◌, ◌*◌, ◌<◌, ◌==◌, Bool, true, false, List, [], ◌∷◌, length, take, slice_get}
+use Rattle.std.specs.Prelude.{Option, None, Some, IfSome, option_map, if◌then◌else◌}
 use Rattle.ct_word.specs.Kept.{Kept}
 use Rattle.ct_pool.specs.Leases.{PoolState, LeaseState, IsLeaseOf, KeepsOthers, leases_out}
 use Rattle.ct_plan.specs.declared.operation.BlockOp.{BlockOp}
@@ -49,8 +50,8 @@ reached out operations cells fault = performed out (tried operations fault) cell
 abbrev pub unfailed_end : Task → Option PieceEnd
 unfailed_end task = if task.done == length task.plan.operations then Some All else None
 
--- how a piece ends that leaves the task like this, where it found this difference, if any, and else the medium failed the
--- operation at this place, if any
+-- how a piece ends that leaves the task like this, where it found this difference, if any, and else the medium failed
+-- the operation at this place, if any
 abbrev pub end_of : Task → List BlockOp → Option ℕ → Option ℕ → Option PieceEnd
 end_of task operations fault (Some offset) = Some (Miscompare offset)
 end_of task operations None None = unfailed_end task
@@ -90,8 +91,10 @@ pub record Makes (out : List ℕ) (operations : List BlockOp) (old new : Task) (
   pub size : length after ≡ length before
 
 -- one operation is made, by way of a buffer: what it does to the blocks and to the data of the command
-pub record Performs (out : List ℕ) (operation : BlockOp) (old new : Kept ℕ) (blocks blocks' : List (List ℕ)) : Type 0 where
-  pub cells : record { blocks = blocks'; got = new.items } ≡ after out operation (record { blocks = blocks; got = old.items })
-  pub room : new.room + 512 * gets_among (operation ∷ []) ≡ old.room
-  pub grown : length new.items ≡ length old.items + 512 * gets_among (operation ∷ [])
-  pub size : length blocks' ≡ length blocks
+pub record Performs (out : List ℕ) (operation : BlockOp) (old new : Kept ℕ) (blocks blocks' : List (List ℕ)) : Type 0
+  where
+    pub cells : record { blocks = blocks'; got = new.items }
+        ≡ after out operation (record { blocks = blocks; got = old.items })
+    pub room : new.room + 512 * gets_among (operation ∷ []) ≡ old.room
+    pub grown : length new.items ≡ length old.items + 512 * gets_among (operation ∷ [])
+    pub size : length blocks' ≡ length blocks

@@ -1,5 +1,6 @@
 -- The plan of a command: its block operations, in the order in which they are made. It is read off the command's row.
-use Rattle.std.specs.Prelude.{ℕ, zero, suc, ◌+◌, List, [], ◌∷◌, ◌++◌, Bool, true, false, if◌then◌else◌, Option, None, Some}
+use Rattle.std.specs.Prelude.{ℕ, zero, suc, ◌+◌, List, [], ◌∷◌, ◌++◌, Bool, true, false, if◌then◌else◌, Option, None}
+use Rattle.std.specs.Prelude.{Some}
 use Rattle.ct_cdb.specs.declared.profile.Phase.{Phase}
 use Rattle.ct_cdb.specs.declared.profile.Phase.TheVariants as phase
 use Rattle.ct_cdb.specs.declared.profile.Profile.{Profile}
@@ -22,7 +23,8 @@ operation_of phase.Compare count place lba = operations.Compare lba place
 -- the operations of a phase on these of its blocks, of which the first stands at this place
 abbrev pub operations_from : Phase → ℕ → ℕ → List ℕ → List BlockOp
 operations_from phase count place [] = []
-operations_from phase count place (lba ∷ lbas) = operation_of phase count place lba ∷ operations_from phase count (place + 1) lbas
+operations_from phase count place (lba ∷ lbas) =
+    operation_of phase count place lba ∷ operations_from phase count (place + 1) lbas
 
 abbrev pub operations_in : Phase → List LbaRange → List BlockOp
 operations_in phase ranges = operations_from phase (total ranges) 0 (numbers_of ranges)

@@ -1,4 +1,4 @@
-//! Laws of plans, each the contract of a function with an empty body. They speak of phases and operations, and of no command.
+//! Laws of plans, each the contract of a function with an empty body. They speak of phases and operations alone.
 
 ghost use Rattle.std.specs.Prelude.{◌≡◌, ℕ, List, [], length, take, sum, true};
 ghost use Rattle.std.specs.List.{list_all};

@@ -1,4 +1,5 @@
-ghost use Rattle.std.specs.Prelude.{◌≡◌, ◌+◌, ◌-◌, ◌*◌, ◌^◌, ◌<◌, ◌≤◌, [], ◌∷◌, ◌++◌, length, slice_set, slice_index_or, option_map, OnOk, OnErr, OnSome, IfOk, IfSome, None};
+ghost use Rattle.std.specs.Prelude.{◌≡◌, ◌+◌, ◌-◌, ◌*◌, ◌^◌, ◌<◌, ◌≤◌, [], ◌∷◌, ◌++◌, length, slice_set};
+ghost use Rattle.std.specs.Prelude.{slice_index_or, option_map, OnOk, OnErr, OnSome, IfOk, IfSome, None};
 ghost use Rattle.ct_word.specs.Causes.{HasCause, no_end};
 ghost use Rattle.ct_pool.specs.Leases.{IsLeaseOf};
 ghost use Rattle.ct_plan.specs.Plans.{gets_among};
@@ -63,8 +64,8 @@ fn put<B: Backend>(lba: u32, bytes: &[u8], buffer: &mut Block, medium: &mut B) -
     medium.swap(lba, buffer)
 }
 
-// Compares a block of the medium with these bytes, which stand in the data-out behind so many blocks: the offset there of
-// the first byte that differs.
+// Compares a block of the medium with these bytes, which stand in the data-out behind so many blocks: the offset there
+// of the first byte that differs.
 fn compare<B: Backend>(
     lba: u32,
     place: u32,
@@ -74,7 +75,9 @@ fn compare<B: Backend>(
 ) -> Result<Option<u32>, Failed>
     requires inside { lba < length (B.blocks medium.old) }
     requires told { 512 * (place + 1) ≤ 2 ^ 32 }
-    ensures found { IfOk result (λ found. found ≡ option_map (λ at. 512 * place + at) (first_difference (slice_index_or (B.blocks medium.old) lba []) bytes.now)) }
+    ensures found { IfOk result (λ found.
+        found ≡ option_map (λ at. 512 * place + at)
+        (first_difference (slice_index_or (B.blocks medium.old) lba []) bytes.now)) }
     ensures stays { B.blocks medium.new ≡ B.blocks medium.old }
     ensures cause { HasCause no_end (B.faults medium.old) (B.faults medium.new) result }
 {
@@ -98,8 +101,10 @@ fn perform<B: Backend>(
     requires covered { IsCovered (length out.now) operation }
     requires told { IsTold operation }
     requires room { 512 * gets_among (operation ∷ []) ≤ body.old.room }
-    ensures made { OnOk result (Performs out.now operation body.old body.new (B.blocks medium.old) (B.blocks medium.new)) }
-    ensures found { IfOk result (λ found. found ≡ difference_at out.now operation (record { blocks = B.blocks medium.old; got = body.old.items })) }
+    ensures made { OnOk result (
+        Performs out.now operation body.old body.new (B.blocks medium.old) (B.blocks medium.new)) }
+    ensures found { IfOk result (λ found.
+        found ≡ difference_at out.now operation (record { blocks = B.blocks medium.old; got = body.old.items })) }
     ensures kept { OnErr result (body.new ≡ body.old) }
     ensures stays { OnErr result (B.blocks medium.new ≡ B.blocks medium.old) }
     ensures cause { HasCause no_end (B.faults medium.old) (B.faults medium.new) result }
@@ -142,7 +147,8 @@ fn make<B: Backend>(
     requires left { t.old.done < length t.old.plan.operations }
     requires small { t.old.done + 1 < 2 ^ 32 }
     ensures made { OnOk result (Makes out.now (operation ∷ []) t.old t.new (B.blocks medium.old) (B.blocks medium.new)) }
-    ensures found { IfOk result (λ found. found ≡ difference_at out.now operation (cells_of (B.blocks medium.old) t.old)) }
+    ensures found { IfOk result (λ found.
+        found ≡ difference_at out.now operation (cells_of (B.blocks medium.old) t.old)) }
     ensures kept { OnErr result (t.new ≡ t.old) }
     ensures stays { OnErr result (B.blocks medium.new ≡ B.blocks medium.old) }
     ensures pool { Uses pool.old pool.new t.old.lease }
@@ -177,8 +183,8 @@ fn unfailed(t: &Task) -> Option<PieceEnd>
     }
 }
 
-/// Makes the next operations of a task's plan, at most `blocks` of them, and fewer only where the plan ends, a compare finds
-/// a difference or the medium fails. It takes no memory.
+/// Makes the next operations of a task's plan, at most `blocks` of them, and fewer only where the plan ends, a compare
+/// finds a difference or the medium fails. It takes no memory.
 pub fn advance<B: Backend>(
     t: &mut Task,
     out: &[u8],

@@ -34,7 +34,9 @@ pub drains_idle : (old new : PairState) (said : Answer) (from to : ℕ) → Acts
     Drains old.opening (MayFail from to) old.book.journal new.book.journal
 drains_idle old new said from to h e a b silent =
     let idles : (act_of (replay old.opening old.book.journal) next h.fault).answer ≡ answer.Idle = sym h.answer ∙ e in
-    let same : new.book.journal ≡ old.book.journal = h.journal ∙ ap (λ events. old.book.journal ++ events) (silent MOST_STEP h.fault idles) ∙ append-nil old.book.journal in
+    let same : new.book.journal ≡ old.book.journal =
+    h.journal ∙ ap (λ events. old.book.journal ++ events) (silent MOST_STEP h.fault idles)
+    ∙ append-nil old.book.journal in
     subst (λ j. Drains old.opening (MayFail from to) old.book.journal j) (sym same) (idle old.book.journal h.fault (may_fail from old.desk.faults new.desk.faults to h.fault a b h.cause) idles)
 
 pub drains_more : (old new : PairState) (said : Answer) (from to : ℕ) (end : List Logged) → Acts old new next said → from ≤ old.desk.faults → new.desk.faults ≤ to →

@@ -3,7 +3,8 @@ use Rattle.std.proofs.Common.{◌≡◌, ℕ, zero, suc, ◌+◌, ◌≤◌, ◌
 use Rattle.std.specs.Prelude.{IfSome, sum_by, count_by, nat_lt}
 use Rattle.std.proofs.lemmas.Bool.{ltb-false}
 use Rattle.std.proofs.lemmas.List.Sums.{sum_by-cons}
-use Rattle.ct_word.specs.declared.limit.TheConstants.{MOST_BLOCKS, MOST_COMMANDS, MOST_DATA_OUT_TOGETHER, MOST_OPERATIONS}
+use Rattle.ct_word.specs.declared.limit.TheConstants.{MOST_BLOCKS, MOST_COMMANDS, MOST_DATA_OUT_TOGETHER}
+use Rattle.ct_word.specs.declared.limit.TheConstants.{MOST_OPERATIONS}
 use Rattle.ct_cdb.specs.declared.op.Cdb.{Cdb}
 use Rattle.ct_cdb.specs.declared.op.CdbFault.{CdbFault}
 use Rattle.ct_cdb.specs.Forms.{cdb_of}
@@ -21,11 +22,15 @@ use Rattle.ct_script.specs.declared.script.Word.TheVariants.{Lun, Port, Map, Cmd
 use Rattle.ct_script.specs.Rules.{IsInRange, AreInRange, IsWithin, is_command, line_asked, word_line_asked, cdb_asked, data_bytes}
 use Rattle.ct_top.specs.Commands.{command_in, pieces_by, pieces_in, room_of, declared_blocks}
 
-pub blocks_in_range : (lines : List Line) → AreInRange lines → IfSome (declared_blocks lines) (λ blocks. (1 ≤ blocks) × (blocks ≤ MOST_BLOCKS))
+pub blocks_in_range : (lines : List Line) → AreInRange lines
+    → IfSome (declared_blocks lines) (λ blocks. (1 ≤ blocks) × (blocks ≤ MOST_BLOCKS))
 blocks_in_range [] h = tt
 blocks_in_range (line ∷ lines) h = go line.word (h 0 line (omega arith)) (blocks_in_range lines (λ k d within. h (suc k) d (omega (arith, within))))
   where
-    go : (word : Word) → IsInRange word → IfSome (declared_blocks lines) (λ blocks. (1 ≤ blocks) × (blocks ≤ MOST_BLOCKS)) → IfSome (declared_blocks (record { no = line.no; word = word } ∷ lines)) (λ blocks. (1 ≤ blocks) × (blocks ≤ MOST_BLOCKS))
+    go : (word : Word) → IsInRange word
+        → IfSome (declared_blocks lines) (λ blocks. (1 ≤ blocks) × (blocks ≤ MOST_BLOCKS))
+        → IfSome (declared_blocks (record { no = line.no; word = word } ∷ lines))
+        (λ blocks. (1 ≤ blocks) × (blocks ≤ MOST_BLOCKS))
     go (Lun lun blocks) k rest = k
     go (Port port node) k rest = rest
     go (Map n x lun) k rest = rest
@@ -36,7 +41,8 @@ blocks_in_range (line ∷ lines) h = go line.word (h 0 line (omega arith)) (bloc
 
 -- a command plans at most as many block operations as it asks for
 
-pub length-plan_of : (out blocks : ℕ) (profile : Profile) → length (plan_of out blocks profile) ≡ cond (is_performed out blocks profile) (operations profile) 0
+pub length-plan_of : (out blocks : ℕ) (profile : Profile)
+    → length (plan_of out blocks profile) ≡ cond (is_performed out blocks profile) (operations profile) 0
 unfolding plan_of
 length-plan_of out blocks profile = go (is_performed out blocks profile)
   where
@@ -47,7 +53,8 @@ length-plan_of out blocks profile = go (is_performed out blocks profile)
 plan_asked : (out blocks : ℕ) (profile : Profile) → length (plan_of out blocks profile) ≤ operations profile
 plan_asked out blocks profile = go (is_performed out blocks profile) (length-plan_of out blocks profile)
   where
-    go : (t : Bool) → length (plan_of out blocks profile) ≡ cond t (operations profile) 0 → length (plan_of out blocks profile) ≤ operations profile
+    go : (t : Bool) → length (plan_of out blocks profile) ≡ cond t (operations profile) 0
+        → length (plan_of out blocks profile) ≤ operations profile
     go true e = omega (arith, e)
     go false e = omega (arith, e)
 
@@ -63,7 +70,8 @@ pieces_asked blocks line = go line.word
     go (Lun lun n) = omega arith
     go (Port port node) = omega arith
     go (Map n x lun) = omega arith
-    go (Cmd n x tag attr cdb out) = omega (arith, plan_asked (length out) blocks (profile_by (cdb_of cdb) out blocks), by out (cdb_of cdb))
+    go (Cmd n x tag attr cdb out) =
+        omega (arith, plan_asked (length out) blocks (profile_by (cdb_of cdb) out blocks), by out (cdb_of cdb))
     go (Step lun number n) = omega arith
     go (Drain lun) = omega arith
     go Sync = omega arith
@@ -84,8 +92,15 @@ pub record Few (blocks : ℕ) (lines : List Line) : Type 0 where
 
 pub are_few : (blocks : ℕ) (lines : List Line) → IsWithin lines → Few blocks lines
 are_few blocks lines h = record {
-  commands = ltb-false MOST_COMMANDS (count_by is_command lines) (first (nat_lt MOST_COMMANDS (count_by is_command lines)) (nat_lt MOST_DATA_OUT_TOGETHER (sum_by data_bytes lines)) (nat_lt MOST_OPERATIONS (sum_by line_asked lines)) h.limits);
-  pieces = let a = all_asked blocks lines in let b : sum_by line_asked lines ≤ MOST_OPERATIONS = ltb-false MOST_OPERATIONS (sum_by line_asked lines) (last (nat_lt MOST_COMMANDS (count_by is_command lines)) (nat_lt MOST_DATA_OUT_TOGETHER (sum_by data_bytes lines)) (nat_lt MOST_OPERATIONS (sum_by line_asked lines)) h.limits) in omega (arith, a, b);
+  commands = ltb-false MOST_COMMANDS (count_by is_command lines)
+      (first (nat_lt MOST_COMMANDS (count_by is_command lines))
+      (nat_lt MOST_DATA_OUT_TOGETHER (sum_by data_bytes lines)) (nat_lt MOST_OPERATIONS (sum_by line_asked lines))
+      h.limits);
+  pieces = let a = all_asked blocks lines in let b : sum_by line_asked lines ≤ MOST_OPERATIONS =
+      ltb-false MOST_OPERATIONS (sum_by line_asked lines)
+      (last (nat_lt MOST_COMMANDS (count_by is_command lines))
+      (nat_lt MOST_DATA_OUT_TOGETHER (sum_by data_bytes lines))
+      (nat_lt MOST_OPERATIONS (sum_by line_asked lines)) h.limits) in omega (arith, a, b);
 }
   where
     first : (a b c : Bool) → (a || b || c) ≡ false → a ≡ false

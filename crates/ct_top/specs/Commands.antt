@@ -37,7 +37,16 @@ room_of blocks lines = record { commands = count_by is_command lines; functions 
 
 -- a unit of one node, whose task set and pool are of the usual size
 abbrev pub opening_of : ℕ → List Line → Opening
-opening_of blocks lines = record { ha = ha.None; lun = record { 0 = 0 }; blocks = blocks; depth = DEPTH; pool = POOL; room = room_of blocks lines }
+opening_of blocks lines =
+    record {
+      ha = ha.None;
+      lun = record { 0 = 0 };
+      blocks = blocks;
+      depth = DEPTH;
+      pool = POOL;
+      room =
+          room_of blocks lines;
+    }
 
 -- the blocks of the unit that the lines declare, if they declare one
 abbrev pub first_of : Option ℕ → Option ℕ → Option ℕ

@@ -14,8 +14,10 @@ transfer size bytes count op = record { size = size; refusable = protect_field b
 
 -- READ (10)
 abbrev pub read_10 : List ℕ → Row
-read_10 bytes = transfer 10 bytes (count_field 7 (number_at 2 7 bytes)) (Read Ten (number_at 4 2 bytes) (number_at 2 7 bytes))
+read_10 bytes =
+    transfer 10 bytes (count_field 7 (number_at 2 7 bytes)) (Read Ten (number_at 4 2 bytes) (number_at 2 7 bytes))
 
 -- WRITE (10)
 abbrev pub write_10 : List ℕ → Row
-write_10 bytes = transfer 10 bytes (count_field 7 (number_at 2 7 bytes)) (Write Ten (number_at 4 2 bytes) (number_at 2 7 bytes))
+write_10 bytes =
+    transfer 10 bytes (count_field 7 (number_at 2 7 bytes)) (Write Ten (number_at 4 2 bytes) (number_at 2 7 bytes))

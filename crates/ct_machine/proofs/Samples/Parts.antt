@@ -35,7 +35,9 @@ use Rattle.ct_machine.specs.Serial.{serial_disk}
 
 -- all that a run computes with
 unfoldable pub machine : Unit {0}
-unfolding row_of profile_in hits seeks plan_of need_of overlap footprint_of conflicts skips blocker_of next_ready_of is_unrestricted has_descriptors tells_aborts closing_control refusal_of refused_control execute plan_in need_in after turned_cause act_of replay journal_of serial_disk
+unfolding row_of profile_in hits seeks plan_of need_of overlap footprint_of conflicts skips blocker_of next_ready_of
+    is_unrestricted has_descriptors tells_aborts closing_control refusal_of refused_control execute
+    plan_in need_in after turned_cause act_of replay journal_of serial_disk
 machine = tt
 
 -- a unit of so many blocks

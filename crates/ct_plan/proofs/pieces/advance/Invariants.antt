@@ -11,7 +11,8 @@ invariant-loop-moved g l =
     let faults = g.B.Backend.faults in
     record {
       made : Makes l.out (take l.moved (left l.initial.t)) l.initial.t l.t (blocks l.initial.medium) (blocks l.medium);
-      even : (performed l.out (take l.moved (left l.initial.t)) (cells_of (blocks l.initial.medium) l.initial.t)).difference ≡ None;
+      even : (performed l.out (take l.moved (left l.initial.t))
+          (cells_of (blocks l.initial.medium) l.initial.t)).difference ≡ None;
       used : Uses l.initial.pool l.pool l.initial.t.lease;
       ready : IsReady (length l.out) (length (blocks l.medium)) l.pool l.t;
       later : faults l.initial.medium ≤ faults l.medium;

@@ -5,7 +5,9 @@ use Rattle.ct_top.proofs.played.planned.Goals as goal
 
 pub returns-then-is_performed : goal.returns-then-is_performed
 returns-then-is_performed c =
-    c.operations.ensures ∙ ap (λ (b : Bool). cond b (operations c.args.profile.now) 0) (sym c.if-is_performed.true ∙ c.is_performed.ensures)
+    c.operations.ensures
+    ∙ ap (λ (b : Bool). cond b (operations c.args.profile.now) 0)
+    (sym c.if-is_performed.true ∙ c.is_performed.ensures)
     ∙ sym (length-plan_of c.args.out c.args.blocks c.args.profile.now)
 
 pub returns-else-is_performed : goal.returns-else-is_performed

@@ -3,4 +3,5 @@ use Rattle.ct_top.proofs.Ranges.{are_few}
 use Rattle.ct_top.proofs.played.room_of.Goals as goal
 
 pub loop-line-init : goal.loop-line-init
-loop-line-init c = record { commands = omega arith; pieces = omega arith; few = are_few c.args.blocks c.args.lines.now c.requires }
+loop-line-init c =
+    record { commands = omega arith; pieces = omega arith; few = are_few c.args.blocks c.args.lines.now c.requires }

@@ -1,4 +1,5 @@
-use Rattle.std.proofs.Common.{◌≡◌, ◌≤◌, ◌+◌, ℕ, List, Bool, false, Some, None, IsNone, length, if◌then◌else◌, refl, sym, ap, ◌∙◌, subst, arith}
+use Rattle.std.proofs.Common.{◌≡◌, ◌≤◌, ◌+◌, ℕ, List, Bool, false, Some, None, IsNone, length, if◌then◌else◌, refl, sym}
+use Rattle.std.proofs.Common.{ap, ◌∙◌, subst, arith}
 use Rattle.ct_word.specs.declared.names.Node.TheVariants.{A}
 use Rattle.ct_plan.specs.declared.operation.BlockOp.{BlockOp}
 use Rattle.ct_book.specs.declared.work.Command.{Command}
@@ -20,7 +21,10 @@ enter-requires-clause-agrees g c =
     let command : Command = c.args.cmd in
     let pieces : ℕ = c.length.result in
     let same : pieces ≡ length (plan_in (length old.blocks) command) =
-    c.length.ensures ∙ ap (λ (ops : List BlockOp). length ops) (c.prepare-prepared.ensures.operations ∙ ap (λ (b : ℕ). plan_in b c.command.result.now) c.blocks-2.ensures ∙ ap (plan_in (length old.blocks)) c.command.ensures) in
+    c.length.ensures
+    ∙ ap (λ (ops : List BlockOp). length ops)
+    (c.prepare-prepared.ensures.operations ∙ ap (λ (b : ℕ). plan_in b c.command.result.now) c.blocks-2.ensures
+    ∙ ap (plan_in (length old.blocks)) c.command.ensures) in
     let ok = add_ok (has_room book (work.Cmd command) pieces) c.add.result c.in-Ok.no (length book.works + 1) (work.Cmd command) c.add.ensures.answer c.in-Ok.is in
     let added : c.add.new.self ≡ with_work book A (work.Cmd command) pieces =
     c.add.ensures.after ∙ ap (λ (b : Bool). if b then with_work book A (work.Cmd command) pieces else book) ok.0 in
@@ -33,11 +37,14 @@ enter-requires-clause-operations g c =
     let book : BookState = c.args.book.now in
     let command : Command = c.args.cmd in
     let pieces : ℕ = c.length.result in
-    let ok = add_ok (has_room book (work.Cmd command) pieces) c.add.result c.in-Ok.no (length book.works + 1) (work.Cmd command) c.add.ensures.answer c.in-Ok.is in
+    let ok = add_ok (has_room book (work.Cmd command) pieces) c.add.result c.in-Ok.no (length book.works + 1)
+    (work.Cmd command) c.add.ensures.answer c.in-Ok.is in
     let added : c.add.new.self ≡ with_work book A (work.Cmd command) pieces =
     c.add.ensures.after ∙ ap (λ (b : Bool). if b then with_work book A (work.Cmd command) pieces else book) ok.0 in
-    let named : c.command.result.now ≡ command_in c.add.new.self.works c.in-Ok.no = c.command.ensures ∙ sym (added_named book c.add.new.self command pieces c.in-Ok.no added ok.1) in
-    c.prepare-prepared.ensures.operations ∙ ap (λ (b : ℕ). plan_in b c.command.result.now) c.blocks-2.ensures ∙ ap (plan_in (length old.blocks)) named
+    let named : c.command.result.now ≡ command_in c.add.new.self.works c.in-Ok.no =
+    c.command.ensures ∙ sym (added_named book c.add.new.self command pieces c.in-Ok.no added ok.1) in
+    c.prepare-prepared.ensures.operations ∙ ap (λ (b : ℕ). plan_in b c.command.result.now) c.blocks-2.ensures
+    ∙ ap (plan_in (length old.blocks)) named
 
 pub enter-requires-clause-need : goal.enter-requires-clause-need
 enter-requires-clause-need g c =
@@ -45,11 +52,14 @@ enter-requires-clause-need g c =
     let book : BookState = c.args.book.now in
     let command : Command = c.args.cmd in
     let pieces : ℕ = c.length.result in
-    let ok = add_ok (has_room book (work.Cmd command) pieces) c.add.result c.in-Ok.no (length book.works + 1) (work.Cmd command) c.add.ensures.answer c.in-Ok.is in
+    let ok = add_ok (has_room book (work.Cmd command) pieces) c.add.result c.in-Ok.no (length book.works + 1)
+    (work.Cmd command) c.add.ensures.answer c.in-Ok.is in
     let added : c.add.new.self ≡ with_work book A (work.Cmd command) pieces =
     c.add.ensures.after ∙ ap (λ (b : Bool). if b then with_work book A (work.Cmd command) pieces else book) ok.0 in
-    let named : c.command.result.now ≡ command_in c.add.new.self.works c.in-Ok.no = c.command.ensures ∙ sym (added_named book c.add.new.self command pieces c.in-Ok.no added ok.1) in
-    c.prepare-prepared.ensures.need ∙ ap (λ (b : ℕ). need_in b c.command.result.now) c.blocks-2.ensures ∙ ap (need_in (length old.blocks)) named
+    let named : c.command.result.now ≡ command_in c.add.new.self.works c.in-Ok.no =
+    c.command.ensures ∙ sym (added_named book c.add.new.self command pieces c.in-Ok.no added ok.1) in
+    c.prepare-prepared.ensures.need ∙ ap (λ (b : ℕ). need_in b c.command.result.now) c.blocks-2.ensures
+    ∙ ap (need_in (length old.blocks)) named
 
 pub enter-requires-clause-held : goal.enter-requires-clause-held
 enter-requires-clause-held g c =
@@ -57,11 +67,14 @@ enter-requires-clause-held g c =
     let book : BookState = c.args.book.now in
     let command : Command = c.args.cmd in
     let pieces : ℕ = c.length.result in
-    let ok = add_ok (has_room book (work.Cmd command) pieces) c.add.result c.in-Ok.no (length book.works + 1) (work.Cmd command) c.add.ensures.answer c.in-Ok.is in
+    let ok = add_ok (has_room book (work.Cmd command) pieces) c.add.result c.in-Ok.no (length book.works + 1)
+    (work.Cmd command) c.add.ensures.answer c.in-Ok.is in
     let added : c.add.new.self ≡ with_work book A (work.Cmd command) pieces =
     c.add.ensures.after ∙ ap (λ (b : Bool). if b then with_work book A (work.Cmd command) pieces else book) ok.0 in
-    let named : c.command.result.now ≡ command_in c.add.new.self.works c.in-Ok.no = c.command.ensures ∙ sym (added_named book c.add.new.self command pieces c.in-Ok.no added ok.1) in
-    c.prepare-prepared.ensures.held ∙ ap (λ (b : ℕ). held_by b c.command.result.now false) c.blocks-2.ensures ∙ ap (λ (x : Command). held_by (length old.blocks) x false) named
+    let named : c.command.result.now ≡ command_in c.add.new.self.works c.in-Ok.no =
+    c.command.ensures ∙ sym (added_named book c.add.new.self command pieces c.in-Ok.no added ok.1) in
+    c.prepare-prepared.ensures.held ∙ ap (λ (b : ℕ). held_by b c.command.result.now false) c.blocks-2.ensures
+    ∙ ap (λ (x : Command). held_by (length old.blocks) x false) named
 
 pub enter-requires-clause-fresh : goal.enter-requires-clause-fresh
 enter-requires-clause-fresh g c =
@@ -70,7 +83,10 @@ enter-requires-clause-fresh g c =
     let command : Command = c.args.cmd in
     let pieces : ℕ = c.length.result in
     let same : pieces ≡ length (plan_in (length old.blocks) command) =
-    c.length.ensures ∙ ap (λ (ops : List BlockOp). length ops) (c.prepare-prepared.ensures.operations ∙ ap (λ (b : ℕ). plan_in b c.command.result.now) c.blocks-2.ensures ∙ ap (plan_in (length old.blocks)) c.command.ensures) in
+    c.length.ensures
+    ∙ ap (λ (ops : List BlockOp). length ops)
+    (c.prepare-prepared.ensures.operations ∙ ap (λ (b : ℕ). plan_in b c.command.result.now) c.blocks-2.ensures
+    ∙ ap (plan_in (length old.blocks)) c.command.ensures) in
     let ok = add_ok (has_room book (work.Cmd command) pieces) c.add.result c.in-Ok.no (length book.works + 1) (work.Cmd command) c.add.ensures.answer c.in-Ok.is in
     let added : c.add.new.self ≡ with_work book A (work.Cmd command) pieces =
     c.add.ensures.after ∙ ap (λ (b : Bool). if b then with_work book A (work.Cmd command) pieces else book) ok.0 in
@@ -83,7 +99,10 @@ enter-requires-clause-unanswered g c =
     let command : Command = c.args.cmd in
     let pieces : ℕ = c.length.result in
     let same : pieces ≡ length (plan_in (length old.blocks) command) =
-    c.length.ensures ∙ ap (λ (ops : List BlockOp). length ops) (c.prepare-prepared.ensures.operations ∙ ap (λ (b : ℕ). plan_in b c.command.result.now) c.blocks-2.ensures ∙ ap (plan_in (length old.blocks)) c.command.ensures) in
+    c.length.ensures
+    ∙ ap (λ (ops : List BlockOp). length ops)
+    (c.prepare-prepared.ensures.operations ∙ ap (λ (b : ℕ). plan_in b c.command.result.now) c.blocks-2.ensures
+    ∙ ap (plan_in (length old.blocks)) c.command.ensures) in
     let ok = add_ok (has_room book (work.Cmd command) pieces) c.add.result c.in-Ok.no (length book.works + 1) (work.Cmd command) c.add.ensures.answer c.in-Ok.is in
     let added : c.add.new.self ≡ with_work book A (work.Cmd command) pieces =
     c.add.ensures.after ∙ ap (λ (b : Bool). if b then with_work book A (work.Cmd command) pieces else book) ok.0 in
@@ -97,7 +116,10 @@ returns-in-Queued g c =
     let command : Command = c.args.cmd in
     let pieces : ℕ = c.length.result in
     let same : pieces ≡ length (plan_in (length old.blocks) command) =
-    c.length.ensures ∙ ap (λ (ops : List BlockOp). length ops) (c.prepare-prepared.ensures.operations ∙ ap (λ (b : ℕ). plan_in b c.command.result.now) c.blocks-2.ensures ∙ ap (plan_in (length old.blocks)) c.command.ensures) in
+    c.length.ensures
+    ∙ ap (λ (ops : List BlockOp). length ops)
+    (c.prepare-prepared.ensures.operations ∙ ap (λ (b : ℕ). plan_in b c.command.result.now) c.blocks-2.ensures
+    ∙ ap (plan_in (length old.blocks)) c.command.ensures) in
     let ok = add_ok (has_room book (work.Cmd command) pieces) c.add.result c.in-Ok.no (length book.works + 1) (work.Cmd command) c.add.ensures.answer c.in-Ok.is in
     let added : c.add.new.self ≡ with_work book A (work.Cmd command) pieces =
     c.add.ensures.after ∙ ap (λ (b : Bool). if b then with_work book A (work.Cmd command) pieces else book) ok.0 in
@@ -112,7 +134,10 @@ returns-in-Turned g c =
     let command : Command = c.args.cmd in
     let pieces : ℕ = c.length.result in
     let same : pieces ≡ length (plan_in (length old.blocks) command) =
-    c.length.ensures ∙ ap (λ (ops : List BlockOp). length ops) (c.prepare-prepared.ensures.operations ∙ ap (λ (b : ℕ). plan_in b c.command.result.now) c.blocks-2.ensures ∙ ap (plan_in (length old.blocks)) c.command.ensures) in
+    c.length.ensures
+    ∙ ap (λ (ops : List BlockOp). length ops)
+    (c.prepare-prepared.ensures.operations ∙ ap (λ (b : ℕ). plan_in b c.command.result.now) c.blocks-2.ensures
+    ∙ ap (plan_in (length old.blocks)) c.command.ensures) in
     let ok = add_ok (has_room book (work.Cmd command) pieces) c.add.result c.in-Ok.no (length book.works + 1) (work.Cmd command) c.add.ensures.answer c.in-Ok.is in
     let added : c.add.new.self ≡ with_work book A (work.Cmd command) pieces =
     c.add.ensures.after ∙ ap (λ (b : Bool). if b then with_work book A (work.Cmd command) pieces else book) ok.0 in

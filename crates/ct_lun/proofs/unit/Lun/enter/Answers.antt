@@ -27,7 +27,8 @@ returns-in-Ok-clause-answer g c =
     let number : ℕ = c.args.no in
     let command : Command = c.command-command.result.now in
     let named : command ≡ command_in book.works number = c.command-command.ensures in
-    let need : c.need.result ≡ need_in (length old.blocks) command = c.need.ensures ∙ c.requires.need ∙ ap (need_in (length old.blocks)) (sym named) in
+    let need : c.need.result ≡ need_in (length old.blocks) command =
+    c.need.ensures ∙ c.requires.need ∙ ap (need_in (length old.blocks)) (sym named) in
     let free : turned_cause (state_of old book) (command_in book.works number) ≡ None =
     ap (turned_cause (state_of old book)) (sym named) ∙ sym (cause_known old book command c.need.result c.requires.agrees.base need) ∙ c.in-Ok.ensures.free in
     ap entered_as (sym free)
@@ -39,13 +40,22 @@ returns-in-Ok-clause-wrote g c =
     let number : ℕ = c.args.no in
     let command : Command = c.command-command.result.now in
     let named : command ≡ command_in book.works number = c.command-command.ensures in
-    let need : c.need.result ≡ need_in (length old.blocks) command = c.need.ensures ∙ c.requires.need ∙ ap (need_in (length old.blocks)) (sym named) in
+    let need : c.need.result ≡ need_in (length old.blocks) command =
+    c.need.ensures ∙ c.requires.need ∙ ap (need_in (length old.blocks)) (sym named) in
     let free : turned_cause (state_of old book) (command_in book.works number) ≡ None =
     ap (turned_cause (state_of old book)) (sym named) ∙ sym (cause_known old book command c.need.result c.requires.agrees.base need) ∙ c.in-Ok.ensures.free in
     let mid : Desk = c.admit.new.self in
     let new : Desk = c.put_in.new.self in
     let held : Held = c.args.prepared.held in
-    let slot : Slot = record { no = number; nexus = command.nexus; tag = command.tag; begun = false; task = record { plan = c.args.prepared.plan; lease = c.in-Ok.lease; body = c.take_body-body.result; done = 0 } } in
+    let slot : Slot =
+    record {
+      no = number;
+      nexus = command.nexus;
+      tag = command.tag;
+      begun = false;
+      task =
+          record { plan = c.args.prepared.plan; lease = c.in-Ok.lease; body = c.take_body-body.result; done = 0 };
+    } in
     let filled : IsFilled (command_in book.works number) c.take_body-body.result = body_known book number c.take_body-body.result c.requires.command c.take_body-body.ensures.ready in
     let holds : held ≡ held_by (length old.blocks) (command_in book.works number) false = c.requires.held in
     let entry : IsEntry old book number slot = record {
@@ -60,7 +70,9 @@ returns-in-Ok-clause-wrote g c =
       room = filled.room;
     } in
     let pool : new.pool ≡ mid.pool = ap (λ (d : Desk). d.pool) c.put_in.ensures in
-    let takes : Takes old.pool new.pool c.args.prepared.plan.need c.in-Ok.lease = subst (λ (x : PoolState). Takes old.pool x c.args.prepared.plan.need c.in-Ok.lease) (sym pool) (subst (λ (k : ℕ). Takes old.pool mid.pool k c.in-Ok.lease) c.need.ensures c.in-Ok.ensures.takes) in
+    let takes : Takes old.pool new.pool c.args.prepared.plan.need c.in-Ok.lease =
+    subst (λ (x : PoolState). Takes old.pool x c.args.prepared.plan.need c.in-Ok.lease) (sym pool)
+    (subst (λ (k : ℕ). Takes old.pool mid.pool k c.in-Ok.lease) c.need.ensures c.in-Ok.ensures.takes) in
     let desk : new ≡ record old { set = record old.set { commands = placed (record { no = number; held = held }) old.set.commands }; slots = placed_slot held.attr slot old.slots; pool = new.pool } =
     c.put_in.ensures
     ∙ ap (λ (d : Desk). record d { set = record d.set { commands = placed (record { no = number; held = held }) d.set.commands }; slots = placed_slot held.attr slot d.slots }) c.in-Ok.ensures.after
@@ -77,11 +89,20 @@ returns-in-Ok-clause-agrees g c =
     let number : ℕ = c.args.no in
     let command : Command = c.command-command.result.now in
     let named : command ≡ command_in book.works number = c.command-command.ensures in
-    let need : c.need.result ≡ need_in (length old.blocks) command = c.need.ensures ∙ c.requires.need ∙ ap (need_in (length old.blocks)) (sym named) in
+    let need : c.need.result ≡ need_in (length old.blocks) command =
+    c.need.ensures ∙ c.requires.need ∙ ap (need_in (length old.blocks)) (sym named) in
     let mid : Desk = c.admit.new.self in
     let new : Desk = c.put_in.new.self in
     let held : Held = c.args.prepared.held in
-    let slot : Slot = record { no = number; nexus = command.nexus; tag = command.tag; begun = false; task = record { plan = c.args.prepared.plan; lease = c.in-Ok.lease; body = c.take_body-body.result; done = 0 } } in
+    let slot : Slot =
+    record {
+      no = number;
+      nexus = command.nexus;
+      tag = command.tag;
+      begun = false;
+      task =
+          record { plan = c.args.prepared.plan; lease = c.in-Ok.lease; body = c.take_body-body.result; done = 0 };
+    } in
     let filled : IsFilled (command_in book.works number) c.take_body-body.result = body_known book number c.take_body-body.result c.requires.command c.take_body-body.ensures.ready in
     let holds : held ≡ held_by (length old.blocks) (command_in book.works number) false = c.requires.held in
     let entry : IsEntry old book number slot = record {
@@ -96,7 +117,9 @@ returns-in-Ok-clause-agrees g c =
       room = filled.room;
     } in
     let pool : new.pool ≡ mid.pool = ap (λ (d : Desk). d.pool) c.put_in.ensures in
-    let takes : Takes old.pool new.pool c.args.prepared.plan.need c.in-Ok.lease = subst (λ (x : PoolState). Takes old.pool x c.args.prepared.plan.need c.in-Ok.lease) (sym pool) (subst (λ (k : ℕ). Takes old.pool mid.pool k c.in-Ok.lease) c.need.ensures c.in-Ok.ensures.takes) in
+    let takes : Takes old.pool new.pool c.args.prepared.plan.need c.in-Ok.lease =
+    subst (λ (x : PoolState). Takes old.pool x c.args.prepared.plan.need c.in-Ok.lease) (sym pool)
+    (subst (λ (k : ℕ). Takes old.pool mid.pool k c.in-Ok.lease) c.need.ensures c.in-Ok.ensures.takes) in
     let desk : new ≡ record old { set = record old.set { commands = placed (record { no = number; held = held }) old.set.commands }; slots = placed_slot held.attr slot old.slots; pool = new.pool } =
     c.put_in.ensures
     ∙ ap (λ (d : Desk). record d { set = record d.set { commands = placed (record { no = number; held = held }) d.set.commands }; slots = placed_slot held.attr slot d.slots }) c.in-Ok.ensures.after
@@ -113,7 +136,8 @@ returns-in-Err-clause-answer g c =
     let number : ℕ = c.args.no in
     let command : Command = c.command-command.result.now in
     let named : command ≡ command_in book.works number = c.command-command.ensures in
-    let need : c.need.result ≡ need_in (length old.blocks) command = c.need.ensures ∙ c.requires.need ∙ ap (need_in (length old.blocks)) (sym named) in
+    let need : c.need.result ≡ need_in (length old.blocks) command =
+    c.need.ensures ∙ c.requires.need ∙ ap (need_in (length old.blocks)) (sym named) in
     let cause : turned_cause (state_of old book) (command_in book.works number) ≡ Some (refused_reply c.in-Err.refusal) =
     ap (turned_cause (state_of old book)) (sym named) ∙ sym (cause_known old book command c.need.result c.requires.agrees.base need) ∙ c.in-Err.ensures.cause in
     ap entered_as (sym cause)
@@ -125,7 +149,8 @@ returns-in-Err-clause-wrote g c =
     let number : ℕ = c.args.no in
     let command : Command = c.command-command.result.now in
     let named : command ≡ command_in book.works number = c.command-command.ensures in
-    let need : c.need.result ≡ need_in (length old.blocks) command = c.need.ensures ∙ c.requires.need ∙ ap (need_in (length old.blocks)) (sym named) in
+    let need : c.need.result ≡ need_in (length old.blocks) command =
+    c.need.ensures ∙ c.requires.need ∙ ap (need_in (length old.blocks)) (sym named) in
     let cause : turned_cause (state_of old book) (command_in book.works number) ≡ Some (refused_reply c.in-Err.refusal) =
     ap (turned_cause (state_of old book)) (sym named) ∙ sym (cause_known old book command c.need.result c.requires.agrees.base need) ∙ c.in-Err.ensures.cause in
     rw c.in-Err.ensures.unchanged

@@ -18,7 +18,8 @@ use Rattle.ct_lun.specs.States.{command_in}
 use Rattle.ct_lun.specs.Calls.{Goes, closed_book}
 use Rattle.ct_lun.proofs.Does.{gone_slot, gone_within, gone_end, gone_cut, part_does}
 use Rattle.ct_lun.proofs.Moves.{moved_wrote}
-use Rattle.ct_lun.proofs.Overs.{reached_part, reached_end, reached_differs, reached_fault, fault_left, end_does, differs_does, cut_does}
+use Rattle.ct_lun.proofs.Overs.{reached_part, reached_end, reached_differs, reached_fault, fault_left, end_does}
+use Rattle.ct_lun.proofs.Overs.{differs_does, cut_does}
 use Rattle.ct_lun.proofs.unit.Lun.move_on.Goals as goal
 
 pub finish-requires-clause-agrees : goal.finish-requires-clause-agrees

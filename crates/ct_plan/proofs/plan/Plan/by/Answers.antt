@@ -9,5 +9,6 @@ pub returns-clause-need : goal.returns-clause-need
 unfolding need_of plan_of
 returns-clause-need c =
     let performed : is_performed c.args.out c.args.blocks c.args.profile ≡ true = search rules in
-    let some : 0 < length c.args.profile.phases * total c.args.profile.ranges = omega (arith, c.if-operations-eq0.false, c.operations.ensures) in
+    let some : 0 < length c.args.profile.phases * total c.args.profile.ranges =
+    omega (arith, c.if-operations-eq0.false, c.operations.ensures) in
     rw performed (need_known c.args.profile.phases c.args.profile.ranges c.args.profile.need some)

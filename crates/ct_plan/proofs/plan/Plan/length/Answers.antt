@@ -4,4 +4,5 @@ use Rattle.ct_plan.proofs.plan.Plan.length.Goals as goal
 
 pub returns : goal.returns
 returns c =
-    rw (← c.self.view_is, c.len.ensures.len, c.self.invariant.counted) (sym (length-planned c.self.inside.phases c.self.inside.ranges))
+    rw (← c.self.view_is, c.len.ensures.len, c.self.invariant.counted)
+    (sym (length-planned c.self.inside.phases c.self.inside.ranges))
