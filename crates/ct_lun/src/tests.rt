@@ -1,10 +1,10 @@
-ghost use Rattle.std.specs.Prelude.{◌≡◌, ◌≤◌, ◌<◌, length, IfOk};
-ghost use Rattle.ct_word.specs.Nexuses.{IsNexus};
+ghost use Rattle.std.specs.Prelude.{◌≤◌, length, IfOk};
+ghost use Rattle.ct_word.specs.declared.limit.TheConstants.{MOST_BLOCKS};
 ghost use Rattle.ct_lun.specs.Agreement.{AgreesWith};
 
 use super::*;
 use ct_book::{Book, Cmd};
-use ct_cdb::Attr2;
+use ct_cdb::{Attr2, CdbBytes};
 use ct_machine::Answer;
 use ct_medium::{Backend, FaultyRam, Ram};
 use ct_sense::Status;
@@ -37,6 +37,7 @@ fn arrive<B: Backend>(
 {
     let nexus = Nexus { port: 1, init: 2 };
     let out = Bytes::from_vec(out.to_vec(alloc)?);
+    let cdb = CdbBytes::new(Bytes::from_vec(cdb.to_vec(alloc)?));
     let cmd = Cmd::new(alloc, 7, nexus, 1, Tag(tag), Attr2::Simple, cdb, out)?;
     if book.spare() < 2 {
         return Ok(false);
@@ -70,7 +71,7 @@ fn next<B: Backend>(lun: &mut Lun<B>, book: &mut Book) -> Option<u32>
 // A unit with its book.
 #[tactic(auto, using(crate::proofs::Opens::opened_agrees))]
 fn open<B: Backend>(alloc: Global, depth: u32, pool: u32, medium: B) -> Result<(Lun<B>, Book), Fail>
-    requires few { length (B.blocks medium) ≤ 65536 }
+    requires few { length (B.blocks medium) ≤ MOST_BLOCKS }
     requires low { 1 ≤ depth }
     requires high { depth ≤ 256 }
     ensures { IfOk result (λ u. AgreesWith u.0 u.1) }

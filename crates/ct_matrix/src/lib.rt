@@ -28,6 +28,7 @@ pub use waits::{Waits, leave_uncounted};
 mod tests {
     use super::*;
     use ct_cdb::{Form, Op, SerIdx};
+    use ct_word::limit::BLOCK_SIZE;
     use std::marker::Brand;
     use std::sync::ledger::{Blank, Ledger};
 
@@ -58,7 +59,7 @@ mod tests {
 
     /// A write of two blocks, that waits.
     fn writing(index: SerIdx, lba: u64, attr: Attr) -> Held {
-        let print = footprint(&write(lba, 2), &[0; 1024], 100);
+        let print = footprint(&write(lba, 2), &[0; 2 * BLOCK_SIZE], 100);
         Held {
             index,
             print,
@@ -142,14 +143,18 @@ mod tests {
 
     #[test]
     fn footprints_meet(rt: HostRuntime) {
-        let read = footprint(&read(5, 2), &[], 7);
+        let reading = footprint(&read(5, 2), &[], 7);
         let past_the_end = footprint(&read(5, 3), &[], 7);
-        let write = footprint(&write(6, 1), &[0; 512], 7);
-        let short = footprint(&write(6, 1), &[0; 511], 7);
+        let writing = footprint(&write(6, 1), &[0; BLOCK_SIZE], 7);
+        let short = footprint(&write(6, 1), &[0; BLOCK_SIZE - 1], 7);
         let nothing = footprint(&write(6, 0), &[], 7);
-        assert!(rt; overlaps(&read, &write) && overlaps(&write, &read) && overlaps(&write, &write));
-        assert!(rt; !overlaps(&read, &read) && !overlaps(&past_the_end, &write));
-        assert!(rt; !overlaps(&read, &short) && !overlaps(&read, &nothing));
+        assert!(rt;
+            overlaps(&reading, &writing)
+                && overlaps(&writing, &reading)
+                && overlaps(&writing, &writing)
+        );
+        assert!(rt; !overlaps(&reading, &reading) && !overlaps(&past_the_end, &writing));
+        assert!(rt; !overlaps(&reading, &short) && !overlaps(&reading, &nothing));
         assert_eq!(rt; action(SerIdx::Rd, SerIdx::Wr), Action::OptExtent);
         overlap_is_symmetric();
         block_cells_are_symmetric();
