@@ -35,3 +35,15 @@ pub fn encoded_reads_back()
 pub fn rows_fit()
     ensures { (op : Op) (out : List ℕ) (blocks : ℕ) → Fits (profile_of op out blocks) }
 {}
+
+#[cfg(test)]
+mod tests {
+    use super::*;
+
+    #[test]
+    fn are_called() {
+        table();
+        encoded_reads_back();
+        rows_fit();
+    }
+}
