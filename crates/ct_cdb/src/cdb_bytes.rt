@@ -46,3 +46,33 @@ impl CdbBytes {
         &self.decoded
     }
 }
+
+#[cfg(test)]
+mod tests {
+    use super::*;
+    use crate::op::{Form, Op};
+    use std::test::Fail;
+
+    #[test]
+    fn keeps_bytes_and_what_they_decode_to(rt: HostRuntime) -> Result<(), Fail> {
+        let op = Op::Read {
+            form: Form::Ten,
+            lba: 3,
+            count: 2,
+        };
+        let short = CdbFault::BadLength { want: 10, got: 2 };
+        let cases: [(&[u8], Result<Cdb, CdbFault>); 2] = [
+            (
+                b"\x28\0\0\0\0\x03\0\0\x02\x80",
+                Ok(Cdb { op, control: 0x80 }),
+            ),
+            (b"\x28\0", Err(short)),
+        ];
+        for (bytes, decoded) in cases {
+            let cdb = CdbBytes::new(Bytes::from_vec(bytes.to_vec(rt.alloc())?));
+            assert_eq!(rt; cdb.as_slice(), bytes);
+            assert_eq!(rt; *cdb.decoded(), decoded, "at {bytes:?}");
+        }
+        Ok(())
+    }
+}

@@ -83,3 +83,24 @@ impl<T: Copy> Few<T> {
         }
     }
 }
+
+#[cfg(test)]
+mod tests {
+    use super::*;
+
+    #[test]
+    fn holds_up_to_two(rt: HostRuntime) {
+        let none: Few<u8> = Few::none();
+        let (one, two) = (Few::one(7), Few::two(7, 8));
+        assert_eq!(rt; none.items(), (None, None));
+        assert_eq!(rt; one.items(), (Some(&7), None));
+        assert_eq!(rt; two.items(), (Some(&7), Some(&8)));
+        assert_eq!(rt; (none.len(), one.len(), two.len()), (0, 1, 2));
+        assert_eq!(rt; [none.get(0), none.get(1), none.get(2)], [None; 3]);
+        assert_eq!(rt; [one.get(0), one.get(1), one.get(2)], [Some(7), None, None]);
+        assert_eq!(rt;
+            [two.get(0), two.get(1), two.get(2)],
+            [Some(7), Some(8), None]
+        );
+    }
+}

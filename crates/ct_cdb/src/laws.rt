@@ -40,3 +40,15 @@ pub fn rows_fit()
     ensures room { (decoded : Result Cdb AnyFault) (out : List ℕ) (blocks : ℕ) →
         (profile_by decoded out blocks).data_in ≡ room_of decoded }
 {}
+
+#[cfg(test)]
+mod tests {
+    use super::*;
+
+    #[test]
+    fn are_called() {
+        table();
+        encoded_reads_back();
+        rows_fit();
+    }
+}

@@ -104,3 +104,47 @@ fn is_inside(range: LbaRange, blocks: u32) -> bool
         None => false,
     }
 }
+
+#[cfg(test)]
+mod tests {
+    use super::*;
+
+    #[test]
+    fn names_no_block(rt: HostRuntime) {
+        let none = Ranges::none();
+        assert!(rt; none.as_slice().is_empty() && none.are_inside(0));
+        assert_eq!(rt; none.total(), 0);
+    }
+
+    #[test]
+    fn names_the_blocks_of_a_range(rt: HostRuntime) {
+        let one = Ranges::one(3, 2);
+        assert_eq!(rt; one.as_slice(), [LbaRange { lba: 3, count: 2 }].as_slice());
+        assert_eq!(rt; one.total(), 2);
+        assert_eq!(rt; (one.lba_at(0), one.lba_at(1)), (3, 4));
+    }
+
+    #[test]
+    fn finds_what_leaves_the_disk(rt: HostRuntime) {
+        // ranges that end at the disk's last block, or one behind it, and ranges whose end has more than 64 bits
+        let cases = [
+            (3, 2, 5, true),
+            (3, 2, 4, false),
+            (5, 0, 5, true),
+            (5, 0, 4, false),
+            (0xffff_ffff, 0, u32::MAX, true),
+            (0xffff_ffff, 1, u32::MAX, false),
+            (u64::MAX, 0, u32::MAX, false),
+            (u64::MAX, 1, u32::MAX, false),
+            (u64::MAX, u32::MAX, u32::MAX, false),
+        ];
+        for (lba, count, blocks, inside) in cases {
+            let range = Ranges::one(lba, count);
+            assert_eq!(rt;
+                range.are_inside(blocks),
+                inside,
+                "{count} from {lba} of {blocks}"
+            );
+        }
+    }
+}
