@@ -4,7 +4,7 @@ use Rattle.ct_cdb.specs.declared.op.Op.{Op}
 use Rattle.ct_cdb.specs.declared.op.Op.TheVariants.{Read}
 use Rattle.ct_cdb.specs.declared.op.Cdb.{Cdb}
 use Rattle.ct_cdb.specs.declared.op.CdbFault.{CdbFault}
-use Rattle.ct_cdb.specs.Profiles.{profile_of, profile_by, undecoded, operations, asked_of, room_of, Fits}
+use Rattle.ct_cdb.specs.Profiles.{profile_of, profile_by, operations, asked_of, room_of, Fits}
 
 -- the last clause is tried for each command that has none
 pub row_fits : (op : Op) (out : List ℕ) (blocks : ℕ) → Fits (profile_of op out blocks)

@@ -1,5 +1,5 @@
 -- Block numbers of ranges, by their places.
-use Rattle.std.proofs.Common.{◌≡◌, ℕ, zero, suc, ◌+◌, ◌<◌, List, [], ◌∷◌, ◌++◌, length, slice_get, Some, refl, ap, ◌∙◌}
+use Rattle.std.proofs.Common.{◌≡◌, ℕ, zero, suc, ◌+◌, ◌<◌, List, [], ◌∷◌, length, slice_get, Some, refl, ap, ◌∙◌}
 use Rattle.std.proofs.Common.{arith, append-nil, length-append}
 use Rattle.ct_cdb.specs.declared.ranges.LbaRange.{LbaRange}
 use Rattle.ct_cdb.specs.Ranges.{numbers_from, numbers_of, total}

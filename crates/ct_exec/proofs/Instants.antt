@@ -15,13 +15,13 @@ use Rattle.ct_sense.specs.declared.code.TheConstants.{PARAMETER_LIST_LENGTH_ERRO
 use Rattle.ct_plan.specs.declared.operation.BlockOp.{BlockOp}
 use Rattle.ct_plan.specs.Plans.{planned, plan_of}
 use Rattle.ct_plan.specs.Cells.{Cells, Progress, performed}
-use Rattle.ct_plan.specs.Effects.{Effect, effect}
+use Rattle.ct_plan.specs.Effects.{effect}
 use Rattle.ct_plan.proofs.Cuts.{whole_phases}
 use Rattle.ct_book.specs.declared.work.Command.{Command}
 use Rattle.ct_book.specs.Works.{profile_in}
 use Rattle.ct_exec.specs.Controls.{ControlState, Disk}
-use Rattle.ct_exec.specs.Executions.{Execution, good, check_condition, row_refusal, refusal_of, refusal_by, reply_moved}
-use Rattle.ct_exec.specs.Executions.{execute, executed, effect_of, plan_in}
+use Rattle.ct_exec.specs.Executions.{Execution, good, check_condition, refusal_of, refusal_by, reply_moved}
+use Rattle.ct_exec.specs.Executions.{execute, executed, plan_in}
 
 -- nothing refuses what is performed
 unrefused_performed : (control : ControlState) (blocks out : ℕ) (decoded : Result Cdb CdbFault) (profile : Profile)

@@ -1,7 +1,7 @@
 -- A plan in pieces, and as a whole.
-use Rattle.std.proofs.Common.{◌≡◌, ℕ, zero, suc, ◌+◌, ◌*◌, ◌<◌, ◌≤◌, Bool, true, false, ◌&&◌, List, [], ◌∷◌, ◌++◌}
-use Rattle.std.proofs.Common.{length, length-append, sum, Option, Some, None, option_map, take, drop, set, get_or, refl}
-use Rattle.std.proofs.Common.{sym, ap, ◌∙◌, subst, arith, append_assoc, append-nil, drop-drop, take-append-drop}
+use Rattle.std.proofs.Common.{◌≡◌, ℕ, zero, suc, ◌+◌, ◌*◌, ◌≤◌, true, List, [], ◌∷◌, ◌++◌}
+use Rattle.std.proofs.Common.{length, sum, Option, Some, None, option_map, take, drop, set, get_or, refl}
+use Rattle.std.proofs.Common.{sym, ap, ◌∙◌, arith, append_assoc, append-nil, take-append-drop}
 use Rattle.std.proofs.Common.{drop-set-lt, leb-true, add-zero}
 use Rattle.std.proofs.Math.Seq.{take-add}
 use Rattle.std.specs.List.{concat, list_all}
@@ -15,12 +15,12 @@ use Rattle.ct_cdb.specs.declared.profile.Phase.{Phase}
 use Rattle.ct_cdb.specs.declared.profile.Phase.TheVariants as phase
 use Rattle.ct_cdb.specs.declared.ranges.LbaRange.{LbaRange}
 use Rattle.ct_cdb.specs.Ranges.{numbers_from, numbers_of, total, is_inside}
-use Rattle.ct_cdb.proofs.Numbers.{length-numbers_from, length-numbers_of}
+use Rattle.ct_cdb.proofs.Numbers.{length-numbers_from}
 use Rattle.ct_plan.specs.declared.operation.BlockOp.{BlockOp}
 use Rattle.ct_plan.specs.Plans.{operation_of, operations_from, operations_in, planned}
 use Rattle.ct_plan.specs.Cells.{Cells, Progress, out_block, zero_block, with_block, after, after_all, difference_at}
 use Rattle.ct_plan.specs.Cells.{first_difference, unless, performed, joined_where, joined, in_pieces}
-use Rattle.ct_plan.specs.Effects.{Disk, Effect, EndsAs, blocks_at, spliced, blocks_from, filled, difference_among}
+use Rattle.ct_plan.specs.Effects.{Disk, EndsAs, blocks_at, spliced, blocks_from, filled, difference_among}
 use Rattle.ct_plan.specs.Effects.{after_phase, difference_of, ended_by, effect}
 use Rattle.ct_plan.proofs.Performing.{after_all-append, performed-append, performed-all, size_after_all, perform_size}
 

@@ -1,6 +1,6 @@
 -- What the plan of a row asks of the data-out and the disk, and that a task can begin with it.
-use Rattle.std.proofs.Common.{◌≡◌, ℕ, zero, suc, ◌+◌, ◌*◌, ◌<◌, ◌≤◌, max, Bool, true, false, ◌&&◌, not, cond, nat_le}
-use Rattle.std.proofs.Common.{nat_lt, ltb-false, leb-true, sym, ap, ◌∙◌, subst, List, [], ◌∷◌, ◌++◌, length, refl}
+use Rattle.std.proofs.Common.{◌≡◌, ℕ, zero, suc, ◌+◌, ◌*◌, ◌<◌, ◌≤◌, Bool, true, false, ◌&&◌, not, cond}
+use Rattle.std.proofs.Common.{nat_lt, ltb-false, leb-true, sym, ap, ◌∙◌, subst, List, [], ◌∷◌, length, refl}
 use Rattle.std.proofs.Common.{arith, if◌then◌else◌}
 use Rattle.std.specs.List.{All, list_all}
 use Rattle.std.proofs.lemmas.List.Elements.{All-nil, All-cons, All-append}
@@ -15,7 +15,6 @@ use Rattle.ct_cdb.specs.Profiles.{Fits, is_performed, named_by, most_named, give
 use Rattle.ct_cdb.proofs.Numbers.{length-numbers_of}
 use Rattle.ct_pool.specs.Leases.{PoolState, IsLeaseOf}
 use Rattle.ct_plan.specs.declared.operation.BlockOp.{BlockOp}
-use Rattle.ct_plan.specs.declared.operation.BlockOp.TheVariants as operations
 use Rattle.ct_plan.specs.declared.task.Task.{Task}
 use Rattle.ct_plan.specs.Plans.{operation_of, operations_from, operations_in, planned, plan_of, is_get, gets_among}
 use Rattle.ct_plan.specs.Tasks.{IsReady, IsInside, IsCovered, lba_of}

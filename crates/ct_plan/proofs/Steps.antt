@@ -1,8 +1,8 @@
 -- What one operation does, and a piece of several.
-use Rattle.std.proofs.Common.{◌≡◌, ℕ, zero, suc, ◌+◌, ◌-◌, ◌*◌, ◌<◌, ◌≤◌, List, [], ◌∷◌, ◌++◌, length, take, drop, set}
+use Rattle.std.proofs.Common.{◌≡◌, ℕ, zero, suc, ◌+◌, ◌<◌, ◌≤◌, List, [], ◌∷◌, ◌++◌, length, take, drop, set}
 use Rattle.std.proofs.Common.{get_or, slice_get, Option, None, Some, Bool, true, false, is_some, cond, option_map, ◌==◌}
 use Rattle.std.proofs.Common.{if◌then◌else◌, rules, refl, sym, ap, ◌∙◌, subst, arith, add-one, length-take, take-take}
-use Rattle.std.proofs.Common.{take-append-drop, length-append, length-set}
+use Rattle.std.proofs.Common.{take-append-drop, length-append}
 use Rattle.std.specs.List.{All}
 use Rattle.std.proofs.lemmas.List.Sums.{sum_by-set}
 use Rattle.ct_word.specs.Kept.{Kept}

@@ -1,5 +1,5 @@
 -- Blocks and block operations of a script are in their ranges.
-use Rattle.std.proofs.Common.{◌≡◌, ℕ, zero, suc, ◌+◌, ◌≤◌, ◌<◌, Bool, true, false, List, [], ◌∷◌, Result, Ok, Err, length, refl, ap, arith, cond, ◌||◌}
+use Rattle.std.proofs.Common.{◌≡◌, ℕ, suc, ◌≤◌, ◌<◌, Bool, true, false, List, [], ◌∷◌, Result, Ok, Err, length, refl, arith, cond, ◌||◌}
 use Rattle.std.specs.Prelude.{IfSome, sum_by, count_by, nat_lt}
 use Rattle.std.proofs.lemmas.Bool.{ltb-false}
 use Rattle.std.proofs.lemmas.List.Sums.{sum_by-cons}

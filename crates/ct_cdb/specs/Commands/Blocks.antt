@@ -1,5 +1,5 @@
 -- Commands that move blocks (SBC-3, clause 5).
-use Rattle.std.specs.Prelude.{ℕ, ◌*◌, List, [], ◌∷◌, Bool, true, false}
+use Rattle.std.specs.Prelude.{ℕ, ◌*◌, List, [], ◌∷◌, true, false}
 use Rattle.ct_word.specs.declared.limit.TheConstants.{BLOCK_SIZE}
 use Rattle.ct_cdb.specs.declared.op.SerIdx.TheVariants.{Rd, Wr}
 use Rattle.ct_cdb.specs.declared.ranges.LbaRange.{LbaRange}

@@ -3,9 +3,9 @@ use Rattle.std.proofs.Common.{length-take, length-drop}
 use Rattle.std.specs.Prelude.{min}
 use Rattle.std.proofs.lemmas.List.{take_min}
 use Rattle.ct_plan.specs.Plans.{gets_among}
-use Rattle.ct_plan.specs.Cells.{performed, difference_at}
+use Rattle.ct_plan.specs.Cells.{difference_at}
 use Rattle.ct_plan.specs.Tasks.{left, asked, cells_of}
-use Rattle.ct_plan.specs.Pieces.{Makes, Uses}
+use Rattle.ct_plan.specs.Pieces.{Uses}
 use Rattle.ct_plan.proofs.Lists.{drop-at, gets_among-cons, slice_get-take}
 use Rattle.ct_plan.proofs.Steps.{next_of_left, makes_one_more, uses_both, ready_behind, still_even, advances_whole}
 use Rattle.ct_plan.proofs.Steps.{advances_fault, advances_differs}

@@ -1,4 +1,4 @@
-use Rattle.std.proofs.Common.{◌<◌, arith}
+use Rattle.std.proofs.Common.{arith}
 use Rattle.ct_plan.proofs.Ranged.{some_need, in_two}
 use Rattle.ct_plan.proofs.plan.Plan.buffer.Goals as goal
 

@@ -1,6 +1,6 @@
 use Rattle.std.proofs.Common.{◌≡◌, ◌*◌, ◌<◌, true, length, rules, arith}
 use Rattle.ct_cdb.specs.Profiles.{is_performed}
-use Rattle.ct_plan.specs.Plans.{need_of, plan_of, planned}
+use Rattle.ct_plan.specs.Plans.{need_of, plan_of}
 use Rattle.ct_cdb.specs.Ranges.{total}
 use Rattle.ct_plan.proofs.Ranged.{need_known}
 use Rattle.ct_plan.proofs.plan.Plan.by.Goals as goal

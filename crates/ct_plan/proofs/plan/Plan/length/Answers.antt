@@ -1,4 +1,4 @@
-use Rattle.std.proofs.Common.{◌*◌, length, ap, ◌∙◌, sym}
+use Rattle.std.proofs.Common.{sym}
 use Rattle.ct_plan.proofs.Ranged.{length-planned}
 use Rattle.ct_plan.proofs.plan.Plan.length.Goals as goal
 

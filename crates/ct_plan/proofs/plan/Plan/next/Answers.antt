@@ -1,8 +1,8 @@
-use Rattle.std.proofs.Common.{◌≡◌, ◌+◌, ◌*◌, ◌<◌, length, slice_get, Some, None, sym, ap, ◌∙◌, arith}
+use Rattle.std.proofs.Common.{◌≡◌, ◌+◌, ◌*◌, ◌<◌, length, slice_get, None, sym, ap, ◌∙◌, arith}
 use Rattle.std.proofs.lemmas.Option.{slice_get-get_or}
 use Rattle.ct_cdb.specs.Ranges.{total}
 use Rattle.ct_cdb.specs.declared.profile.Phase.TheVariants.{Get}
-use Rattle.ct_plan.specs.Plans.{operation_of, planned}
+use Rattle.ct_plan.specs.Plans.{planned}
 use Rattle.ct_plan.proofs.Ranged.{length-planned, in_two, phase_within, planned_at}
 use Rattle.ct_plan.proofs.plan.Plan.next.Goals as goal
 
