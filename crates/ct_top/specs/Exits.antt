@@ -2,7 +2,7 @@
 use Rattle.std.specs.Prelude.{ℕ, List, Option, Err, ⊤}
 use Rattle.ct_io.specs.declared.whole.TakeError.{TakeError}
 use Rattle.ct_io.specs.declared.whole.TakeError.TheVariants as takes
-use Rattle.ct_io.specs.Causes.{Rose}
+use Rattle.ct_word.specs.Causes.{Rose, end_of_u64}
 use Rattle.ct_io.specs.Streams.{IsLongerThan}
 use Rattle.ct_script.specs.declared.script.ParseError.{ParseError}
 use Rattle.ct_script.specs.declared.script.ParseError.TheVariants as parses
@@ -45,6 +45,6 @@ exit_of_parse parses.NoMemory = exits.Memory
 abbrev pub IsRefusal : {S : Type 0} → (S → Option (List ℕ)) → (S → ℕ) → S → S → Exit → Type 0
 IsRefusal left faults old new (exits.Script fault) = WasRead (left old) (left new) (Err fault)
 IsRefusal left faults old new exits.TooLong = IsLongerThan most_bytes (left old)
-IsRefusal left faults old new exits.Read = Rose (faults old) (faults new)
+IsRefusal left faults old new exits.Read = Rose end_of_u64 (faults old) (faults new)
 IsRefusal left faults old new exits.Memory = ⊤
 IsRefusal left faults old new _ = ⊥

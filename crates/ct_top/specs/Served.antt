@@ -1,7 +1,7 @@
 -- What the top call answers, and what it leaves.
 use Rattle.std.specs.Prelude.{◌≡◌, ℕ, ◌<◌, ◌≤◌, List, [], ◌∷◌, length, take, bytes_eq, codes, if◌then◌else◌, Option, Some, None, Result, Ok}
 use Rattle.std.specs.Io.KnownBytes.{Appends}
-use Rattle.ct_io.specs.Causes.{Rose}
+use Rattle.ct_word.specs.Causes.{Rose, end_of_u64}
 use Rattle.ct_io.specs.Streams.{GivesAll}
 use Rattle.ct_book.specs.Journals.{works_in}
 use Rattle.ct_machine.specs.Runs.{replay, IsRun}
@@ -83,5 +83,5 @@ pub record IsPlayable (words : List (List ℕ)) (left : Option (List ℕ)) (sour
   pub told : left ≡ Some bytes
   pub short : length bytes ≤ most_bytes
   pub script : script_of bytes ≡ Ok lines
-  pub no_read_fault : ¬ (Rose source_before source_now)
-  pub no_write_fault : ¬ (Rose sink_before sink_now)
+  pub no_read_fault : ¬ (Rose end_of_u64 source_before source_now)
+  pub no_write_fault : ¬ (Rose end_of_u64 sink_before sink_now)

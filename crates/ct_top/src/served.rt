@@ -2,7 +2,7 @@
 
 ghost use Rattle.std.specs.Prelude.{◌≡◌, ◌≢◌, ◌<◌, ◌≤◌, ◌↔◌, ◌⊎◌, [], None, length, take, map, string_bytes, IfOk, IfErr, IfSome, Ok, Err};
 ghost use Rattle.std.specs.Io.KnownBytes.{Appends};
-ghost use Rattle.ct_io.specs.Causes.{Rose};
+ghost use Rattle.ct_word.specs.Causes.{Rose, end_of_u64};
 ghost use Rattle.ct_io.specs.Streams.{IsLongerThan};
 ghost use Rattle.ct_top.specs.Exits.{IfScript, IsWritten, IsRefusal, status_of};
 ghost use Rattle.ct_top.specs.Commands.{declared_blocks};
@@ -83,11 +83,11 @@ pub fn target_one<S: Source, K: Sink>(
 
     ensures script { IfScript result.exit (λ fault. WasRead (S.left source.old) (S.left source.new) (Err fault)) }
     ensures too_long { result.exit ≡ Exit.TooLong → IsLongerThan most_bytes (S.left source.old) }
-    ensures read { result.exit ≡ Exit.Read → Rose (S.faults source.old) (S.faults source.new) }
+    ensures read { result.exit ≡ Exit.Read → Rose end_of_u64 (S.faults source.old) (S.faults source.new) }
 
     ensures write { result.exit ≡ Exit.Write →
         IsCutShort (S.left source.old) (S.left source.new) (K.held sink.old) (K.held sink.new) result.sent result.ends.items }
-    ensures write_fault { result.exit ≡ Exit.Write → Rose (K.faults sink.old) (K.faults sink.new) }
+    ensures write_fault { result.exit ≡ Exit.Write → Rose end_of_u64 (K.faults sink.old) (K.faults sink.new) }
     ensures unwritten { IsWritten result.exit ⊎ ((sink.new ≡ sink.old) × (result.sent ≡ 0) × (result.ends.items ≡ [])) }
 
     // Want of memory is the one free answer.
@@ -119,10 +119,10 @@ fn play<S: Source, K: Sink>(alloc: Global, source: &mut S, sink: &mut K) -> Serv
     ensures no_usage { result.exit ≢ Exit.Usage }
     ensures script { IfScript result.exit (λ fault. WasRead (S.left source.old) (S.left source.new) (Err fault)) }
     ensures too_long { result.exit ≡ Exit.TooLong → IsLongerThan most_bytes (S.left source.old) }
-    ensures read { result.exit ≡ Exit.Read → Rose (S.faults source.old) (S.faults source.new) }
+    ensures read { result.exit ≡ Exit.Read → Rose end_of_u64 (S.faults source.old) (S.faults source.new) }
     ensures write { result.exit ≡ Exit.Write →
         IsCutShort (S.left source.old) (S.left source.new) (K.held sink.old) (K.held sink.new) result.sent result.ends.items }
-    ensures write_fault { result.exit ≡ Exit.Write → Rose (K.faults sink.old) (K.faults sink.new) }
+    ensures write_fault { result.exit ≡ Exit.Write → Rose end_of_u64 (K.faults sink.old) (K.faults sink.new) }
     ensures unwritten { IsWritten result.exit ⊎ ((sink.new ≡ sink.old) × (result.sent ≡ 0) × (result.ends.items ≡ [])) }
 {
     match read_script(alloc, source) {
@@ -180,7 +180,7 @@ fn play_unit(alloc: Global, script: Script, blocks: u32) -> Result<UnitEnd, NoMe
 fn report_ends<K: Sink>(alloc: Global, ends: Vec<UnitEnd>, sink: &mut K) -> Served
     ensures done { result.exit ≡ Exit.Done → Appends (K.held sink.old) (K.held sink.new) (report_text ends.items) × (result.sent ≡ length (report_text ends.items)) × (result.ends.items ≡ ends.items) }
     ensures write { result.exit ≡ Exit.Write → Appends (K.held sink.old) (K.held sink.new) (take result.sent (report_text ends.items)) × (result.sent < length (report_text ends.items)) × (result.ends.items ≡ ends.items) }
-    ensures write_fault { result.exit ≡ Exit.Write → Rose (K.faults sink.old) (K.faults sink.new) }
+    ensures write_fault { result.exit ≡ Exit.Write → Rose end_of_u64 (K.faults sink.old) (K.faults sink.new) }
     ensures exits { IsWritten result.exit ⊎ (result.exit ≡ Exit.Memory) }
     ensures unwritten { IsWritten result.exit ⊎ ((sink.new ≡ sink.old) × (result.sent ≡ 0) × (result.ends.items ≡ [])) }
 {
@@ -202,7 +202,7 @@ fn read_script<S: Source>(alloc: Global, source: &mut S) -> Result<Script, Exit>
 fn write_text<K: Sink>(sink: &mut K, text: &[u8], ends: Vec<UnitEnd>) -> Served
     ensures done { result.exit ≡ Exit.Done → Appends (K.held sink.old) (K.held sink.new) text.now × (result.sent ≡ length text.now) × (result.ends.items ≡ ends.items) }
     ensures write { result.exit ≡ Exit.Write → Appends (K.held sink.old) (K.held sink.new) (take result.sent text.now) × (result.sent < length text.now) × (result.ends.items ≡ ends.items) }
-    ensures write_fault { result.exit ≡ Exit.Write → Rose (K.faults sink.old) (K.faults sink.new) }
+    ensures write_fault { result.exit ≡ Exit.Write → Rose end_of_u64 (K.faults sink.old) (K.faults sink.new) }
     ensures written { IsWritten result.exit }
 {
     match put_all(sink, text) {
