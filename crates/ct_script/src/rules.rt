@@ -2,7 +2,8 @@
 
 ghost use Rattle.std.specs.Prelude.{◌≡◌, ◌<◌, ◌^◌};
 ghost use Rattle.std.specs.List.{list_any};
-ghost use Rattle.ct_script.specs.Rules.{declares_lun, declares_port, maps, is_command, acts, is_misnamed_by, data_bytes, line_asked};
+ghost use Rattle.ct_script.specs.Rules.{declares_lun, declares_port, maps, is_command, acts, is_misnamed_by};
+ghost use Rattle.ct_script.specs.Rules.{data_bytes, line_asked};
 
 use crate::script::{Line, Word};
 use ct_cdb::{asked, decode};
