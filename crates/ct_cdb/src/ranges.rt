@@ -112,14 +112,14 @@ mod tests {
     #[test]
     fn names_no_block(rt: HostRuntime) {
         let none = Ranges::none();
-        assert!(rt; none.as_slice().is_empty() && none.are_inside(0));
+        assert!(rt; none.only().is_none() && none.are_inside(0));
         assert_eq!(rt; none.total(), 0);
     }
 
     #[test]
     fn names_the_blocks_of_a_range(rt: HostRuntime) {
         let one = Ranges::one(3, 2);
-        assert_eq!(rt; one.as_slice(), [LbaRange { lba: 3, count: 2 }].as_slice());
+        assert_eq!(rt; one.only(), Some(LbaRange { lba: 3, count: 2 }));
         assert_eq!(rt; one.total(), 2);
         assert_eq!(rt; (one.lba_at(0), one.lba_at(1)), (3, 4));
     }

@@ -3,6 +3,7 @@ use Rattle.std.proofs.Common.{◌≡◌, ℕ, zero, suc, ◌⊎◌, inl, inr, Bo
 use Rattle.std.proofs.lemmas.Bool.{cases_eq, both_ways}
 use Rattle.std.proofs.lemmas.Option.{same_Some}
 use Rattle.std.specs.Prelude.{nat_le, nat_lt}
+use Rattle.ct_word.specs.declared.limit.TheConstants.{MOST_FUNCTIONS}
 use Rattle.ct_word.specs.declared.names.Node.{Node}
 use Rattle.ct_word.specs.declared.names.Node.TheVariants.{A, B}
 use Rattle.ct_sense.specs.declared.reply.Reply.{Reply}
@@ -21,7 +22,7 @@ use Rattle.ct_book.specs.Journals.{KeptWork, numbered, arrived}
 use Rattle.ct_machine.specs.declared.act.Opening.{Opening}
 use Rattle.ct_machine.specs.States.{Task, Stage, Waiting, Here, Granted, There, Over, Open, Message, Arrival, State, opened, arrival_of, task_of, function_of}
 use Rattle.ct_machine.specs.Events.{message, answered, to_b_if, came_at_b, after, staged, moved_at, after_moved, ended_at, after_ended, cut_at, after_cut, noted, closed, without_function, with_function, asked_for, after_asked, awaits_no_more, awaited_by, after_enter, entered, after_grant, begun_at_b, kind_of}
-use Rattle.ct_machine.specs.Acts.{Turn, nothing, writes, says, followed, turned_cause, entering_with, entering, most_open, numbers_of, cutting_all, closing, open_numbers, taking_up, asking, next_number, arriving_at, taking_in, coming_in, coming_to_a, coming_to_b, delivering_first, messages_to}
+use Rattle.ct_machine.specs.Acts.{Turn, nothing, writes, says, followed, turned_cause, entering_with, entering, numbers_of, cutting_all, closing, open_numbers, taking_up, asking, next_number, arriving_at, taking_in, coming_in, coming_to_a, coming_to_b, delivering_first, messages_to}
 use Rattle.ct_machine.specs.Runs.{replay, IsRun}
 use Rattle.ct_machine.specs.Laws.{has, is_entry, is_enter}
 use Rattle.ct_law.proofs.Inv.{told, replied}
@@ -342,7 +343,7 @@ enters_given n c node s journal came h = go (turned_cause s c)
 
 asks_given : (n : ℕ) (ask : Ask) (node : Node) (s : State) (journal : List Logged) → numbered n s.arrivals ≡ Some (record { node = node; work = work.Ask ask }) → GivenBut n s journal →
     Given (asking n ask s).state (journal ++ (asking n ask s).journal)
-asks_given n ask node s journal came h = go (nat_le most_open (length s.functions))
+asks_given n ask node s journal came h = go (nat_le MOST_FUNCTIONS (length s.functions))
   where
     rejected : Given (after s (told (event.Closed n Rejected))) (journal ++ told (event.Closed n Rejected) ∷ [])
     rejected m a at = ⊎_elim

@@ -4,6 +4,7 @@ use Rattle.std.specs.Prelude.{nat_le, nat_lt, slice_get}
 use Rattle.std.specs.List.{list_any}
 use Rattle.std.proofs.lemmas.List.{length-map}
 use Rattle.std.proofs.lemmas.Bool.{both_ways, and_parts, ltb-true}
+use Rattle.ct_word.specs.declared.limit.TheConstants.{MOST_FUNCTIONS}
 use Rattle.ct_word.specs.declared.names.Node.{Node}
 use Rattle.ct_word.specs.declared.names.Node.TheVariants.{A, B}
 use Rattle.ct_sense.specs.declared.reply.Reply.{Reply}
@@ -30,7 +31,7 @@ use Rattle.ct_machine.specs.States.{Stage, Waiting, Here, Granted, There, Over, 
 use Rattle.ct_machine.specs.Events.{message, staged, cells_after, further, moved_from, moved_at, after_moved, after_ended, cut_at, after_cut, is_hit, is_told, taken_up, awaits_no_more, came_to_a, after_grant, came_to_b, after_came, after_enter, asked_for, after_asked, after_event, after}
 use Rattle.ct_plan.specs.Pieces.{tried}
 use Rattle.ct_machine.specs.Acts.{Turn, nothing, writes, says, replies, followed, turned_cause, entering_with}
-use Rattle.ct_machine.specs.Acts.{most_open, outcome_of, puts_of, cutting, numbers_of, cutting_all, closing_if, closing}
+use Rattle.ct_machine.specs.Acts.{outcome_of, puts_of, cutting, numbers_of, cutting_all, closing_if, closing}
 use Rattle.ct_machine.specs.Acts.{open_numbers, closing_all, taking_up, asking, moving_on, failing, failing_if}
 use Rattle.ct_machine.specs.Acts.{moved_to, moving_from, clearing_all, ending_at_once, is_granted, beginning_at}
 use Rattle.ct_machine.specs.Acts.{beginning, Done, next_number, has_room_for, arriving_at, arriving, blocked_by}
@@ -319,7 +320,7 @@ unfolding after
 costs_rejected n s number = let a = left_rejected n s number (function_of number s.functions) in omega (arith, a)
 
 costs_asking : (laws : Laws) (n : ℕ) (s : State) (number : ℕ) (arrival : Arrival) (ask : Ask) → arrival_of number s ≡ Some arrival → arrival.work ≡ work.Ask ask → IsFine n s → Costs n 4 s (asking number ask s)
-costs_asking laws n s number arrival ask f w h = go (nat_le most_open (length s.functions))
+costs_asking laws n s number arrival ask f w h = go (nat_le MOST_FUNCTIONS (length s.functions))
   where
     go : (t : Bool) → Costs n 4 s (cond t (says (event.Closed number Rejected) s) (taking_up number ask s))
     go true = costs_rejected n s number

@@ -2,6 +2,7 @@
 use Rattle.std.proofs.Common.{◌≡◌, ℕ, zero, suc, ◌+◌, Bool, true, false, ◌&&◌, List, [], ◌∷◌, ◌++◌, Option, Some, None, length, take, drop, refl, sym, ap, ◌∙◌, subst, cond, arith}
 use Rattle.std.specs.Prelude.{fold, nat_le, slice_get}
 use Rattle.std.specs.List.{All, list_any}
+use Rattle.ct_word.specs.declared.limit.TheConstants.{MOST_FUNCTIONS}
 use Rattle.ct_word.specs.declared.names.Node.{Node}
 use Rattle.ct_word.specs.declared.names.Node.TheVariants.{A, B}
 use Rattle.ct_sense.specs.declared.reply.Reply.{Reply}
@@ -27,7 +28,7 @@ use Rattle.ct_machine.specs.States.{Stage, Waiting, Here, Granted, There, Over, 
 use Rattle.ct_machine.specs.Events.{after, after_events, is_cleared, is_hit, is_told}
 use Rattle.ct_plan.specs.Pieces.{tried}
 use Rattle.ct_machine.specs.Acts.{Turn, nothing, writes, says, followed, turned_cause, entering_with, entering}
-use Rattle.ct_machine.specs.Acts.{most_open, puts_of, cutting, numbers_of, cutting_all, closing_if, closing}
+use Rattle.ct_machine.specs.Acts.{puts_of, cutting, numbers_of, cutting_all, closing_if, closing}
 use Rattle.ct_machine.specs.Acts.{open_numbers, closing_all, taking_up, asking, moving_on, failing, failing_if}
 use Rattle.ct_machine.specs.Acts.{moved_to, moving_from, moving, clearing, clearing_all, ending_at_once, is_granted}
 use Rattle.ct_machine.specs.Acts.{beginning_at, beginning, Done, next_number, has_room_for, arriving_at, arriving}
@@ -97,7 +98,7 @@ takes_up Q h number ask s =
     (closes Q h (function_of number two.state.functions) two.state)
 
 pub asks : (Q : State → Turn → Type 0) → Turning Q → (number : ℕ) (ask : Ask) (s : State) → Q s (asking number ask s)
-asks Q h number ask s = go (nat_le most_open (length s.functions))
+asks Q h number ask s = go (nat_le MOST_FUNCTIONS (length s.functions))
   where
     go : (t : Bool) → Q s (cond t (says (event.Closed number Rejected) s) (taking_up number ask s))
     go true = h.one s _ refl

@@ -1,6 +1,7 @@
 -- A work enters, or a function is taken up, cuts what it hits and closes: what holds after these turns.
 use Rattle.std.proofs.Common.{◌≡◌, ℕ, ◌≤◌, ◌⊎◌, inl, inr, Bool, true, false, List, [], ◌∷◌, ◌++◌, Option, Some, None, length, refl, sym, ap, ◌∙◌, subst, ⊎_elim, nat_eq, eqb-true, eq-eqb, ne_eqb, cond, ◌&&◌, append_assoc, append-nil}
 use Rattle.std.proofs.lemmas.Bool.{both_ways, and_parts, eqb-false}
+use Rattle.ct_word.specs.declared.limit.TheConstants.{MOST_FUNCTIONS}
 use Rattle.ct_word.specs.declared.names.Node.{Node}
 use Rattle.ct_sense.specs.declared.reply.Reply.{Reply}
 use Rattle.ct_tmf.specs.declared.function.Ask.{Ask}
@@ -27,7 +28,7 @@ use Rattle.ct_tmf.specs.declared.function.Outcome.{Outcome}
 use Rattle.ct_tmf.specs.declared.function.Outcome.TheVariants.{Rejected}
 use Rattle.ct_machine.specs.States.{function_of, task_of, is_here}
 use Rattle.ct_machine.specs.Events.{after, after_enter, is_hit, is_told, taken_up, after_cut, cut_at as cut_from, closed, after_asked, noted}
-use Rattle.ct_machine.specs.Acts.{outcome_of, Turn, nothing, writes, says, followed, turned_cause, entering_with, entering, most_open, puts_of, cutting, numbers_of, cutting_all, closing_if, closing, closing_all, taking_up, asking}
+use Rattle.ct_machine.specs.Acts.{outcome_of, Turn, nothing, writes, says, followed, turned_cause, entering_with, entering, puts_of, cutting, numbers_of, cutting_all, closing_if, closing, closing_all, taking_up, asking}
 use Rattle.ct_machine.specs.Runs.{replay}
 use Rattle.ct_law.proofs.Laws.{Laws}
 use Rattle.ct_law.proofs.Held.{IsSingle}
@@ -325,7 +326,7 @@ unfolding after
 after_rejected n s e = ap (λ f. answered kind.Response n (closed f s)) e
 
 pub asking_so : (laws : Laws) (o : Opening) (s : State) (journal : List Logged) (n : ℕ) (node : Node) (ask : Ask) → Now NoneDue o s journal → Fresh s journal n → numbered n s.arrivals ≡ Some (record { node = node; work = work.Ask ask }) → After NoneDue o journal (asking n ask s)
-asking_so laws o s journal n node ask h f came = go (nat_le most_open (length s.functions))
+asking_so laws o s journal n node ask h f came = go (nat_le MOST_FUNCTIONS (length s.functions))
   where
     e : Logged
     e = told (event.Asked n)

@@ -1,6 +1,7 @@
 -- What an act does: the events that it writes, and its answer. It is composed of small turns, of one event each.
 use Rattle.std.specs.Prelude.{ℕ, zero, suc, ◌+◌, List, [], ◌∷◌, ◌++◌, length, take, drop, map, Bool, true, false, ◌&&◌, ◌==◌, nat_lt, nat_le, if◌then◌else◌, Option, None, Some, option_map, is_some, slice_get}
 use Rattle.std.specs.List.{find, list_any}
+use Rattle.ct_word.specs.declared.limit.TheConstants.{MOST_FUNCTIONS}
 use Rattle.ct_word.specs.declared.names.Ha.{Ha}
 use Rattle.ct_word.specs.declared.names.Ha.TheVariants.{Serialise}
 use Rattle.ct_word.specs.declared.names.Node.{Node}
@@ -84,10 +85,6 @@ entering number command s = entering_with (turned_cause s command) number s
 
 -- Task management functions (SAM-5, clause 7)
 
--- the most functions that are open
-abbrev pub most_open : ℕ
-most_open = 64
-
 abbrev pub is_sought : Ask → Task → Bool
 is_sought ask task = seeks ask task.command.nexus task.command.tag
 
@@ -136,7 +133,7 @@ taking_up number ask s =
 
 abbrev pub asking : ℕ → Ask → State → Turn
 asking number ask s =
-    if nat_le most_open (length s.functions) then says (event.Closed number Rejected) s
+    if nat_le MOST_FUNCTIONS (length s.functions) then says (event.Closed number Rejected) s
     else taking_up number ask s
 
 -- Moves

@@ -8,15 +8,11 @@ use crate::test_acts::{Said, arrive, next, step};
 use ct_book::{Book, Event};
 use ct_medium::{Backend, Ram};
 use ct_sense::Status;
+use ct_word::limit::{BLOCK_SIZE, MOST_STEP};
 use ct_word::{CmdNo, Ha, LunNo, Room};
 use std::alloc::{AllocError, Global};
 use std::ops::Range;
 use std::test::Fail;
-
-const BLOCK_SIZE: usize = 512;
-
-// No command has more blocks.
-const WHOLE: u32 = 65_536;
 
 const READ_10: u8 = 0x28;
 
@@ -215,9 +211,9 @@ fn ends_in<B: Backend>(
 // Goes on with whole commands until nothing is left to do.
 fn finish<B: Backend>(pair: &mut Pair<B>, commands: &[Access]) -> bool {
     for _ in commands {
-        next(pair, WHOLE);
+        next(pair, MOST_STEP);
     }
-    next(pair, WHOLE) == Said::Idle
+    next(pair, MOST_STEP) == Said::Idle
 }
 
 const FEW: usize = 5;

@@ -4,7 +4,7 @@ ghost use Rattle.std.specs.Prelude.{◌≤◌};
 
 use crate::{Act, Answer, Pair};
 use ct_book::{Cmd, Work};
-use ct_cdb::Attr2;
+use ct_cdb::{Attr2, CdbBytes};
 use ct_medium::Backend;
 use ct_word::{Bytes, CmdNo, Nexus, Node, Tag};
 use std::alloc::Global;
@@ -61,6 +61,7 @@ pub(crate) fn arrive<B: Backend>(
     cdb: &[u8],
     out: &[u8],
 ) -> Result<Said, Fail> {
+    let cdb = CdbBytes::new(Bytes::from_vec(cdb.to_vec(alloc)?));
     let out = Bytes::from_vec(out.to_vec(alloc)?);
     let cmd = Cmd::new(alloc, LINE, NEXUS, 1, Tag(tag), Attr2::Simple, cdb, out)?;
     Ok(plain(pair.act(Act::Arrive(Node::A, Work::Cmd(cmd)))))

@@ -11,7 +11,7 @@ pub use queue::Queue;
 #[cfg(test)]
 mod tests {
     use super::*;
-    use ct_cdb::{Op, SerIdx};
+    use ct_cdb::{Form, Op, SerIdx};
     use ct_matrix::{Attr, Held, Steps, Waits, footprint, leave_uncounted};
     use ct_word::CmdNo;
     use std::marker::Brand;
@@ -22,9 +22,14 @@ mod tests {
     fn writing(lba: u32, attr: Attr) -> Held
         ensures { result.begun ≡ false }
     {
+        let write = Op::Write {
+            form: Form::Ten,
+            lba: u64::from(lba),
+            count: 1,
+        };
         Held {
             index: SerIdx::Wr,
-            print: footprint(&Op::Write10 { lba, count: 1 }, &[0; 512], 1000),
+            print: footprint(&write, &[0; 512], 1000),
             attr,
             begun: false,
         }
