@@ -242,10 +242,12 @@ arrive_does d d' p p1 p' command pieces number result said a noted spare w agree
     let is : IsCommandNo p1 number =
     subst (λ (b : BookState). IsCommandNo b number) (sym added)
     (subst (λ (n : ℕ). IsCommandNo (with_work p A came pieces) n) (sym named) (added_number p command pieces)) in
-    let state : state_of d p1 ≡ after s first_event = ap (state_of d) added ∙ added_state d p command pieces a.base same in
+    let state : state_of d p1 ≡ after s first_event = ap (state_of d) added
+    ∙ added_state d p command pieces a.base same in
     let turn = arriving_turn d p command pieces same noted.fits in
     let cause : turned_cause (state_of d p1) (command_in p1.works number) ≡ turned_cause s command =
-    ap (turned_cause (state_of d p1)) noted.named ∙ sym (cause_known d p1 command (need_in (length d.blocks) command) base refl) ∙ cause_known d p command (need_in (length d.blocks) command) a.base refl in
+    ap (turned_cause (state_of d p1)) noted.named ∙ sym (cause_known d p1 command (need_in
+    (length d.blocks) command) base refl) ∙ cause_known d p command (need_in (length d.blocks) command) a.base refl in
     let second : List Logged = (entering number (command_in p1.works number) (state_of d p1)).journal in
     let journal : (arriving A came s).turn.journal ≡ first_event ∷ second =
     ap (λ (done : Done). done.turn.journal) turn
@@ -253,18 +255,24 @@ arrive_does d d' p p1 p' command pieces number result said a noted spare w agree
     ∙ ap (λ (c : Command). first_event ∷ (entering number c (after s first_event)).journal) (sym noted.named)
     ∙ ap (λ (st : State). first_event ∷ (entering number (command_in p1.works number) st).journal) (sym state) in
     let said_so : said ≡ (arriving A came s).answer =
-    said_entered (turned_cause (state_of d p1) (command_in p1.works number)) number said result told_result queued turned
+    said_entered (turned_cause (state_of d p1) (command_in p1.works number)) number said result told_result queued
+    turned
     ∙ ap (λ (o : Option Reply). if is_some o then answer.Turned number else answer.Queued number) cause
     ∙ ap (λ (n : ℕ). if is_some (turned_cause s command) then answer.Turned n else answer.Queued n) named
     ∙ ap (λ (done : Done). done.answer) (sym turn) in
-    let one : length second ≡ 1 = entering_one (turned_cause (state_of d p1) (command_in p1.works number)) number (state_of d p1) in
-    let grown = entered_room d p1 number command (turned_cause (state_of d p1) (command_in p1.works number)) is noted.named in
+    let one : length second ≡ 1 = entering_one (turned_cause (state_of d p1) (command_in p1.works number)) number
+    (state_of d p1) in
+    let grown = entered_room d p1 number command (turned_cause (state_of d p1)
+    (command_in p1.works number)) is noted.named in
     let new_room : room_of (state_of d' p') ≡ room_of (after_events (state_of d p1) second) = ap room_of w.state in
-    let fell : room_of (state_of d p1) + (pieces + 10) ≤ room_of s = subst (λ (b : BookState). room_of (state_of d b) + (pieces + 10) ≤ room_of s) (sym added) (added_room d p command pieces a.base noted.fits) in
+    let fell : room_of (state_of d p1) + (pieces + 10) ≤ room_of s = subst (λ (b : BookState). room_of
+    (state_of d b) + (pieces + 10) ≤ room_of s) (sym added) (added_room d p command pieces a.base noted.fits) in
     let less : p1.spare ≡ p.spare - 1 = ap (λ (b : BookState). b.spare) added in
     record {
       fault = None;
-      journal = w.journal ∙ ap (λ (b : BookState). b.journal ++ second) added ∙ append_assoc p.journal (first_event ∷ []) second ∙ ap (λ (j : List Logged). p.journal ++ j) (ap (λ (n : ℕ). arrived n A came ∷ second) refl ∙ sym journal);
+      journal = w.journal ∙ ap (λ (b : BookState). b.journal ++ second) added
+          ∙ append_assoc p.journal (first_event ∷ []) second ∙ ap (λ (j : List Logged). p.journal ++ j) (ap (λ
+          (n : ℕ). arrived n A came ∷ second) refl ∙ sym journal);
       answer = said_so;
       state = w.state ∙ ap (λ (st : State). after_events st second) state ∙ ap (after_events s) (sym journal);
       agrees = agrees;
