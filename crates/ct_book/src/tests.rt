@@ -108,22 +108,6 @@ fn answer(alloc: Global, book: &mut Book, no: CmdNo) {
     }
 }
 
-fn end(alloc: Global, book: &mut Book, no: u32) {
-    let no = CmdNo::new(no);
-    answer(alloc, book, no);
-    if is_command(book, no) && has_reply(book, no) && book.spare() > 0 {
-        book.push(Event::Ended { no });
-    }
-}
-
-fn turn(alloc: Global, book: &mut Book, no: u32) {
-    let no = CmdNo::new(no);
-    answer(alloc, book, no);
-    if is_command(book, no) && has_reply(book, no) && book.spare() > 0 {
-        book.push(Event::Turned { no });
-    }
-}
-
 fn cut(book: &mut Book, no: u32, by: u32) {
     let no = CmdNo::new(no);
     let by = CmdNo::new(by);
@@ -187,39 +171,6 @@ fn keeps_a_reply(rt: HostRuntime) -> Result<(), Fail> {
         line: 7,
     };
     assert_eq!(rt; first_event(&book), Some(came));
-    Ok(())
-}
-
-#[test]
-fn hands_back_what_has_no_room(rt: HostRuntime) -> Result<(), Fail> {
-    let alloc = rt.alloc();
-    let mut book = Book::open(alloc, ROOM)?;
-    for (pieces, no) in [(11, 0), (10, 1), (1, 0), (0, 2), (0, 3), (0, 0)] {
-        assert_eq!(rt; read(alloc, &mut book, OWN, pieces)?, no);
-    }
-    assert_eq!(rt; ask(&mut book), 4);
-    assert_eq!(rt; ask(&mut book), 0);
-    assert_eq!(rt; counts(&book), [4, 4, 48]);
-    Ok(())
-}
-
-#[test]
-fn tells_how_commands_ended(rt: HostRuntime) -> Result<(), Fail> {
-    let alloc = rt.alloc();
-    let mut book = Book::open(alloc, ROOM)?;
-    for _ in 0..3 {
-        read(alloc, &mut book, OWN, 0)?;
-    }
-    end(alloc, &mut book, 2);
-    turn(alloc, &mut book, 3);
-    end(alloc, &mut book, 1);
-    let entries = book.history(alloc)?;
-    let ended = [
-        Entry::Ran(CmdNo::new(2)),
-        Entry::Turned(CmdNo::new(3)),
-        Entry::Ran(CmdNo::new(1)),
-    ];
-    assert_eq!(rt; entries.as_slice(), ended.as_slice());
     Ok(())
 }
 

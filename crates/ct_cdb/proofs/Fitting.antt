@@ -9,14 +9,38 @@ use Rattle.ct_cdb.specs.Profiles.{profile_of, profile_by, operations, asked_of, 
 -- the last clause is tried for each command that has none
 pub row_fits : (op : Op) (out : List ℕ) (blocks : ℕ) → Fits (profile_of op out blocks)
 row_fits (Read form lba count) out blocks =
-    record { indexed = refl; covered = omega arith; buffered = λ some. omega arith; roomy = omega arith }
+    record {
+      indexed = refl;
+      classed = refl;
+      barred = refl;
+      awake = refl;
+      covered = omega arith;
+      buffered = λ some. omega arith;
+      roomy = omega arith;
+    }
 row_fits _ out blocks =
-    record { indexed = refl; covered = omega arith; buffered = λ some. omega arith; roomy = omega arith }
+    record {
+      indexed = refl;
+      classed = refl;
+      barred = refl;
+      awake = refl;
+      covered = omega arith;
+      buffered = λ some. omega arith;
+      roomy = omega arith;
+    }
 
 pub decoded_fits : (decoded : Result Cdb CdbFault) (out : List ℕ) (blocks : ℕ) → Fits (profile_by decoded out blocks)
 decoded_fits (Ok cdb) out blocks = row_fits cdb.op out blocks
 decoded_fits (Err fault) out blocks =
-    record { indexed = refl; covered = omega arith; buffered = λ some. omega arith; roomy = omega arith }
+    record {
+      indexed = refl;
+      classed = refl;
+      barred = refl;
+      awake = refl;
+      covered = omega arith;
+      buffered = λ some. omega arith;
+      roomy = omega arith;
+    }
 
 same_room : (op : Op) (out : List ℕ) (blocks : ℕ) → (profile_of op out blocks).data_in ≡ (profile_of op [] 0).data_in
 same_room (Read form lba count) out blocks = refl

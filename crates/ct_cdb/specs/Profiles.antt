@@ -1,5 +1,5 @@
 -- The row of a command, what is read off it, and what holds of every row.
-use Rattle.std.specs.Prelude.{◌≡◌, ℕ, suc, ◌+◌, ◌*◌, ◌<◌, ◌≤◌, max, List, [], ◌∷◌, length, Bool, true, false, not, ◌&&◌}
+use Rattle.std.specs.Prelude.{◌≡◌, ℕ, suc, ◌+◌, ◌*◌, ◌<◌, ◌≤◌, max, List, [], ◌∷◌, length, Bool, true, false, not, ◌&&◌, ◌||◌}
 use Rattle.std.specs.Prelude.{nat_lt, Result, Ok, Err, if◌then◌else◌}
 use Rattle.std.specs.List.{list_all, list_any}
 use Rattle.ct_word.specs.declared.limit.TheConstants.{BLOCK_SIZE}
@@ -10,7 +10,8 @@ use Rattle.ct_cdb.specs.declared.op.CdbFault.{CdbFault}
 use Rattle.ct_cdb.specs.declared.op.SerIdx.{SerIdx}
 use Rattle.ct_cdb.specs.declared.op.SerIdx.TheVariants.{Tur, Inq, RqS, Cap, Rd, Wr, Un, Sy, MSn, MSl, Res, Sta}
 use Rattle.ct_cdb.specs.declared.profile.Profile.{Profile}
-use Rattle.ct_cdb.specs.declared.profile.Class.TheVariants.{Always}
+use Rattle.ct_cdb.specs.declared.profile.Class.{Class}
+use Rattle.ct_cdb.specs.declared.profile.Class.TheVariants.{Always, Reading, Writing}
 use Rattle.ct_cdb.specs.declared.profile.Phase.{Phase}
 use Rattle.ct_cdb.specs.declared.profile.Phase.TheVariants as phase
 use Rattle.ct_cdb.specs.Ranges.{total, is_inside}
@@ -128,10 +129,23 @@ is_indexed MSl phases = has_no_phase phases
 is_indexed Res phases = has_no_phase phases
 is_indexed Sta phases = has_no_phase phases
 
+-- so does its class: a persistent reservation lets commands of the class Reading read beside it (SPC-4, PERSISTENT
+-- RESERVE OUT)
+abbrev pub is_classed : Class → List Phase → Bool
+is_classed Always phases = has_no_phase phases
+is_classed Reading phases = not (list_any writes phases)
+is_classed Writing phases = has_no_phase phases || list_any writes phases
+
 -- what the columns of a row have to do with one another
 pub record Fits (profile : Profile) : Type 0 where
   -- the index is one of commands that do such phases
   pub indexed : is_indexed profile.index profile.phases ≡ true
+  -- the class is one of commands that do such phases
+  pub classed : is_classed profile.class profile.phases ≡ true
+  -- write protection refuses exactly what writes blocks
+  pub barred : profile.is_write ≡ list_any writes profile.phases
+  -- what moves blocks needs a started unit, and reports an attention
+  pub awake : (has_no_phase profile.phases || (profile.needs_started && profile.reports_attention)) ≡ true
   -- the data-out that is asked for has all blocks that the phases go through
   pub covered : BLOCK_SIZE * most_named (total profile.ranges) profile.phases ≤ profile.data_out
   -- what moves blocks needs a block of the pool

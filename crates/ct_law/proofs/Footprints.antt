@@ -17,6 +17,8 @@ use Rattle.ct_cdb.proofs.Fitting.{decoded_fits}
 use Rattle.ct_plan.specs.declared.operation.BlockOp.{BlockOp}
 use Rattle.ct_plan.specs.Plans.{is_put, operation_of, operations_from, operations_in, planned, plan_of}
 use Rattle.ct_plan.specs.Tasks.{lba_of}
+use Rattle.ct_plan.proofs.Planned.{lba_is}
+use Rattle.ct_plan.proofs.Ranged.{put_of}
 use Rattle.ct_matrix.specs.Extents.{Print, blocks_in, share_a_block, overlap, extents_of, extents_if, whole_print}
 use Rattle.ct_matrix.specs.Extents.{no_print, footprint_of}
 use Rattle.ct_matrix.specs.Matrix.{action_of}
@@ -50,24 +52,6 @@ among_back l xs ys e = list_any-append (λ x. nat_eq l x) xs ys ∙ or_right (is
 
 -- the operations of a phase
 
-at_its_block : (phase : Phase) (count place lba : ℕ) → lba_of (operation_of phase count place lba) ≡ lba
-at_its_block phase.Get count place lba = refl
-at_its_block phase.Look count place lba = refl
-at_its_block phase.Put count place lba = refl
-at_its_block phase.PutSecondHalf count place lba = refl
-at_its_block phase.PutSame count place lba = refl
-at_its_block phase.Zero count place lba = refl
-at_its_block phase.Compare count place lba = refl
-
-put_where_writes : (phase : Phase) (count place lba : ℕ) → is_put (operation_of phase count place lba) ≡ writes phase
-put_where_writes phase.Get count place lba = refl
-put_where_writes phase.Look count place lba = refl
-put_where_writes phase.Put count place lba = refl
-put_where_writes phase.PutSecondHalf count place lba = refl
-put_where_writes phase.PutSame count place lba = refl
-put_where_writes phase.Zero count place lba = refl
-put_where_writes phase.Compare count place lba = refl
-
 reads_or_writes : (phase : Phase) → (reads phase ≡ true) ⊎ (writes phase ≡ true)
 reads_or_writes phase.Get = inl refl
 reads_or_writes phase.Look = inl refl
@@ -81,7 +65,7 @@ used_from : (l : ℕ) (phase : Phase) (count place : ℕ) (lbas : List ℕ)
     → uses l (operations_from phase count place lbas) ≡ is_among l lbas
 used_from l phase count place [] = refl
 used_from l phase count place (lba ∷ lbas) =
-    ap (λ n. nat_eq l n || uses l (operations_from phase count (place + 1) lbas)) (at_its_block phase count place lba)
+    ap (λ n. nat_eq l n || uses l (operations_from phase count (place + 1) lbas)) (lba_is phase count place lba)
     ∙ ap (λ r. nat_eq l lba || r) (used_from l phase count (place + 1) lbas)
 
 -- where a phase puts, it writes, and the block is one of its own
@@ -92,9 +76,9 @@ put_from l phase count place (lba ∷ lbas) e =
     let here : (cond (writes phase) (nat_eq l lba) false || puts l (operations_from phase count (place + 1) lbas))
     ≡ true =
     ap (λ w. cond w (nat_eq l lba) false || puts l (operations_from phase count (place + 1) lbas))
-    (sym (put_where_writes phase count place lba))
+    (sym (put_of phase count place lba))
     ∙ ap (λ n. cond (is_put (operation_of phase count place lba)) (nat_eq l n) false || puts l
-    (operations_from phase count (place + 1) lbas)) (sym (at_its_block phase count place lba))
+    (operations_from phase count (place + 1) lbas)) (sym (lba_is phase count place lba))
     ∙ e in
     ⊎_elim
     (λ (m : cond (writes phase) (nat_eq l lba) false ≡ true). both (writes phase) (nat_eq l lba) m)

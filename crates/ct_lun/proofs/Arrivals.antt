@@ -67,7 +67,7 @@ unfolding after
 added_state d p command pieces a same =
     rw (same, tasks_older (length d.blocks) d.pool p.works p.replies (work.Cmd command) d.slots a.each, map_push at_a p.works (work.Cmd command)) refl
 
-pub added_wrote : (d : Desk) (p : BookState) (command : Command) (pieces : ℕ) → Agrees d p → pieces ≡ length (plan_in (length d.blocks) command) → 0 < p.spare
+added_wrote : (d : Desk) (p : BookState) (command : Command) (pieces : ℕ) → Agrees d p → pieces ≡ length (plan_in (length d.blocks) command) → 0 < p.spare
     → Agrees d (with_work p A (work.Cmd command) pieces)
 added_wrote d p command pieces a same room =
     let came = work.Cmd command in
@@ -99,12 +99,8 @@ next_absent d p a = new_absent (length d.blocks) d.pool p.works p.replies (lengt
 last_place : {X : Type 0} (xs : List X) (x : X) (number : ℕ) → number ≡ length xs → numbered (number + 1) (xs ++ x ∷ []) ≡ Some x
 last_place xs x number same = numbered-last (number + 1) xs x (omega (arith, same))
 
-pub added_command : (p : BookState) (command : Command) (pieces : ℕ) → numbered (length p.works + 1) (with_work p A (work.Cmd command) pieces).works ≡ Some (work.Cmd command)
+added_command : (p : BookState) (command : Command) (pieces : ℕ) → numbered (length p.works + 1) (with_work p A (work.Cmd command) pieces).works ≡ Some (work.Cmd command)
 added_command p command pieces = last_place p.works (work.Cmd command) (length p.works) refl
-
-pub added_named : (p p' : BookState) (command : Command) (pieces number : ℕ)
-    → p' ≡ with_work p A (work.Cmd command) pieces → number ≡ length p.works + 1 → command_in p'.works number ≡ command
-added_named p p' command pieces number added same = rw (added, same) (ap command_by (added_command p command pieces))
 
 pub added_number : (p : BookState) (command : Command) (pieces : ℕ) → IsCommandNo (with_work p A (work.Cmd command) pieces) (length p.works + 1)
 added_number p command pieces = subst (λ (o : Option KeptWork). IsSomeAnd o (λ came. is_command came ≡ true)) (sym (added_command p command pieces)) refl
@@ -117,9 +113,40 @@ added_body p command pieces sound = last_place p.untaken true (length p.works) (
 
 -- what the book answers where there is room
 
-pub add_ok : {E : Type 0} (room : Bool) (result : Result ℕ E) (number next : ℕ) (other : E) → result ≡ (if room then Ok next else Err other) → result ≡ Ok number → (room ≡ true) × (number ≡ next)
+add_ok : {E : Type 0} (room : Bool) (result : Result ℕ E) (number next : ℕ) (other : E)
+    → result ≡ (if room then Ok next else Err other) → result ≡ Ok number → (room ≡ true) × (number ≡ next)
 add_ok true result number next other e k = let same : Ok number ≡ Ok next = sym k ∙ e in (refl, cc)
 add_ok false result number next other e k = let same : Ok number ≡ Err other = sym k ∙ e in cc
+
+-- the book noted a command of so many operations under this number
+pub record Came (d : Desk) (p p1 : BookState) (command : Command) (pieces number : ℕ) : Type 0 where
+  pub counted : pieces ≡ length (plan_in (length d.blocks) command)
+  pub fits : has_room p (work.Cmd command) pieces ≡ true
+  pub next : number ≡ length p.works + 1
+  pub added : p1 ≡ with_work p A (work.Cmd command) pieces
+  pub named : command_in p1.works number ≡ command
+
+pub came_so : {E : Type 0} (d : Desk) (p p1 : BookState) (command : Command) (pieces number : ℕ) (result : Result ℕ E)
+    (other : E) → pieces ≡ length (plan_in (length d.blocks) command)
+    → result ≡ (if has_room p (work.Cmd command) pieces then Ok (length p.works + 1) else Err other)
+    → p1 ≡ (if has_room p (work.Cmd command) pieces then with_work p A (work.Cmd command) pieces else p)
+    → result ≡ Ok number → Came d p p1 command pieces number
+came_so d p p1 command pieces number result other counted answer after ok =
+    let told = add_ok (has_room p (work.Cmd command) pieces) result number (length p.works + 1) other answer ok in
+    let added : p1 ≡ with_work p A (work.Cmd command) pieces =
+    after ∙ ap (λ (b : Bool). if b then with_work p A (work.Cmd command) pieces else p) told.0 in
+    record {
+      counted = counted;
+      fits = told.0;
+      next = told.1;
+      added = added;
+      named = rw (added, told.1) (ap command_by (added_command p command pieces));
+    }
+
+-- a value that is made of the disk's blocks and a command
+pub made_of : {X : Type 0} (f : ℕ → Command → X) (blocks : ℕ) (named command : Command) (size : ℕ) (value : X)
+    → value ≡ f size named → size ≡ blocks → named ≡ command → value ≡ f blocks command
+made_of f blocks named command size value made same known = made ∙ ap (λ n. f n named) same ∙ ap (f blocks) known
 
 -- the room that a command takes
 
@@ -190,41 +217,62 @@ said_entered : (cause : Option Reply) (number : ℕ) (said : Answer) (result : E
 said_entered None number said result e queued turned = queued e
 said_entered (Some reply) number said result e queued turned = turned e
 
-pub arrive_does : (d d' : Desk) (p p1 p' : BookState) (command : Command) (pieces number : ℕ) (result : Entered) (said : Answer) → AgreesWith d p → pieces ≡ length (plan_in (length d.blocks) command) → has_room p (work.Cmd command) pieces ≡ true → number ≡ length p.works + 1
-    → p1 ≡ with_work p A (work.Cmd command) pieces → 2 ≤ p.spare → Wrote d d' p1 p' (entering number (command_in p1.works number) (state_of d p1)).journal → AgreesWith d' p' → d'.faults ≡ d.faults
-    → result ≡ entered_as (turned_cause (state_of d p1) (command_in p1.works number)) → ((result ≡ entered.Queued) → said ≡ answer.Queued number) → ((result ≡ entered.Turned) → said ≡ answer.Turned number)
+-- what the book and the unit agree upon stays
+pub came_agrees : (d : Desk) (p p1 : BookState) (command : Command) (pieces number : ℕ) → Agrees d p
+    → Came d p p1 command pieces number → 0 < p.spare → Agrees d p1
+came_agrees d p p1 command pieces number a noted room =
+    subst (λ (b : BookState). Agrees d b) (sym noted.added) (added_wrote d p command pieces a noted.counted room)
+
+pub arrive_does : (d d' : Desk) (p p1 p' : BookState) (command : Command) (pieces number : ℕ) (result : Entered)
+    (said : Answer) → AgreesWith d p → Came d p p1 command pieces number → 2 ≤ p.spare
+    → Wrote d d' p1 p' (entering number (command_in p1.works number) (state_of d p1)).journal → AgreesWith d' p'
+    → d'.faults ≡ d.faults → result ≡ entered_as (turned_cause (state_of d p1) (command_in p1.works number))
+    → ((result ≡ entered.Queued) → said ≡ answer.Queued number)
+    → ((result ≡ entered.Turned) → said ≡ answer.Turned number)
     → Does d d' p p' (λ fault. arriving A (work.Cmd command) (state_of d p)) said
-arrive_does d d' p p1 p' command pieces number result said a same h named added spare w agrees faults told_result queued turned =
+arrive_does d d' p p1 p' command pieces number result said a noted spare w agrees faults told_result queued turned =
     let came = work.Cmd command in
     let s = state_of d p in
     let first = length p.works + 1 in
     let first_event : Logged = arrived first A came in
-    let base : Agrees d p1 = subst (λ (b : BookState). Agrees d b) (sym added) (added_wrote d p command pieces a.base same (omega arith)) in
-    let known : command_in p1.works number ≡ command = ap (λ (b : BookState). command_in b.works number) added ∙ ap (command_in (p.works ++ came ∷ [])) named ∙ ap command_by (added_command p command pieces) in
-    let is : IsCommandNo p1 number = subst (λ (b : BookState). IsCommandNo b number) (sym added) (subst (λ (n : ℕ). IsCommandNo (with_work p A came pieces) n) (sym named) (added_number p command pieces)) in
-    let state : state_of d p1 ≡ after s first_event = ap (state_of d) added ∙ added_state d p command pieces a.base same in
-    let turn = arriving_turn d p command pieces same h in
+    let same = noted.counted in
+    let named = noted.next in
+    let added = noted.added in
+    let base : Agrees d p1 = came_agrees d p p1 command pieces number a.base noted (omega arith) in
+    let is : IsCommandNo p1 number =
+    subst (λ (b : BookState). IsCommandNo b number) (sym added)
+    (subst (λ (n : ℕ). IsCommandNo (with_work p A came pieces) n) (sym named) (added_number p command pieces)) in
+    let state : state_of d p1 ≡ after s first_event = ap (state_of d) added
+    ∙ added_state d p command pieces a.base same in
+    let turn = arriving_turn d p command pieces same noted.fits in
     let cause : turned_cause (state_of d p1) (command_in p1.works number) ≡ turned_cause s command =
-    ap (turned_cause (state_of d p1)) known ∙ sym (cause_known d p1 command (need_in (length d.blocks) command) base refl) ∙ cause_known d p command (need_in (length d.blocks) command) a.base refl in
+    ap (turned_cause (state_of d p1)) noted.named ∙ sym (cause_known d p1 command (need_in
+    (length d.blocks) command) base refl) ∙ cause_known d p command (need_in (length d.blocks) command) a.base refl in
     let second : List Logged = (entering number (command_in p1.works number) (state_of d p1)).journal in
     let journal : (arriving A came s).turn.journal ≡ first_event ∷ second =
     ap (λ (done : Done). done.turn.journal) turn
     ∙ ap (λ (n : ℕ). first_event ∷ (entering n command (after s first_event)).journal) (sym named)
-    ∙ ap (λ (c : Command). first_event ∷ (entering number c (after s first_event)).journal) (sym known)
+    ∙ ap (λ (c : Command). first_event ∷ (entering number c (after s first_event)).journal) (sym noted.named)
     ∙ ap (λ (st : State). first_event ∷ (entering number (command_in p1.works number) st).journal) (sym state) in
     let said_so : said ≡ (arriving A came s).answer =
-    said_entered (turned_cause (state_of d p1) (command_in p1.works number)) number said result told_result queued turned
+    said_entered (turned_cause (state_of d p1) (command_in p1.works number)) number said result told_result queued
+    turned
     ∙ ap (λ (o : Option Reply). if is_some o then answer.Turned number else answer.Queued number) cause
     ∙ ap (λ (n : ℕ). if is_some (turned_cause s command) then answer.Turned n else answer.Queued n) named
     ∙ ap (λ (done : Done). done.answer) (sym turn) in
-    let one : length second ≡ 1 = entering_one (turned_cause (state_of d p1) (command_in p1.works number)) number (state_of d p1) in
-    let grown = entered_room d p1 number command (turned_cause (state_of d p1) (command_in p1.works number)) is known in
+    let one : length second ≡ 1 = entering_one (turned_cause (state_of d p1) (command_in p1.works number)) number
+    (state_of d p1) in
+    let grown = entered_room d p1 number command (turned_cause (state_of d p1)
+    (command_in p1.works number)) is noted.named in
     let new_room : room_of (state_of d' p') ≡ room_of (after_events (state_of d p1) second) = ap room_of w.state in
-    let fell : room_of (state_of d p1) + (pieces + 10) ≤ room_of s = subst (λ (b : BookState). room_of (state_of d b) + (pieces + 10) ≤ room_of s) (sym added) (added_room d p command pieces a.base h) in
+    let fell : room_of (state_of d p1) + (pieces + 10) ≤ room_of s = subst (λ (b : BookState). room_of
+    (state_of d b) + (pieces + 10) ≤ room_of s) (sym added) (added_room d p command pieces a.base noted.fits) in
     let less : p1.spare ≡ p.spare - 1 = ap (λ (b : BookState). b.spare) added in
     record {
       fault = None;
-      journal = w.journal ∙ ap (λ (b : BookState). b.journal ++ second) added ∙ append_assoc p.journal (first_event ∷ []) second ∙ ap (λ (j : List Logged). p.journal ++ j) (ap (λ (n : ℕ). arrived n A came ∷ second) refl ∙ sym journal);
+      journal = w.journal ∙ ap (λ (b : BookState). b.journal ++ second) added
+          ∙ append_assoc p.journal (first_event ∷ []) second ∙ ap (λ (j : List Logged). p.journal ++ j) (ap (λ
+          (n : ℕ). arrived n A came ∷ second) refl ∙ sym journal);
       answer = said_so;
       state = w.state ∙ ap (λ (st : State). after_events st second) state ∙ ap (after_events s) (sym journal);
       agrees = agrees;

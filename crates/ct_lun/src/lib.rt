@@ -8,8 +8,6 @@ mod mechanics;
 mod said;
 mod search;
 mod slot;
-#[cfg(test)]
-mod tests;
 mod unit;
 
 pub use said::{Entered, Stepped};

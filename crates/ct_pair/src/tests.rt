@@ -2,6 +2,7 @@ use super::*;
 use crate::test_acts::{NEXUS, Said, arrive, next, plain, step};
 use ct_book::{Book, Event, Why, Work};
 use ct_medium::{Backend, FaultyRam, Ram};
+use ct_sense::Status;
 use ct_tmf::{Ask, Function};
 use ct_word::{CmdNo, Ha, LunNo, Node, Room};
 use std::alloc::Global;
@@ -125,6 +126,41 @@ fn overlapping_writes_go_one_behind_another(rt: HostRuntime) -> Result<(), Fail>
     assert_eq!(rt; overlapped, OVERLAPPED);
     assert_eq!(rt; read, READ_BEHIND);
     assert_eq!(rt; data, (1024, 0x11, 0x22));
+    Ok(())
+}
+
+// A write for which the pool has room, a read for which it hasn't, and two commands without blocks, of which the task
+// set has a place for one.
+fn crowd<B: Backend>(alloc: Global, pair: &mut Pair<B>) -> Result<[Said; 4], Fail> {
+    let write = arrive(alloc, pair, 1, WRITE_TWO, &[5; 1024])?;
+    let read = arrive(alloc, pair, 2, READ_TWO, &[])?;
+    let nothing = arrive(alloc, pair, 3, READ_NOTHING, &[])?;
+    let further = arrive(alloc, pair, 4, READ_NOTHING, &[])?;
+    Ok([write, read, nothing, further])
+}
+
+fn status<B: Backend>(pair: &Pair<B>, no: u32) -> Option<Status> {
+    match pair.book().reply(CmdNo::new(no)) {
+        Some(reply) => Some(reply.status),
+        None => None,
+    }
+}
+
+#[test]
+fn a_crowded_unit_turns_commands_away(rt: HostRuntime) -> Result<(), Fail> {
+    let alloc = rt.alloc();
+    let ram = Ram::open(alloc, 8)?;
+    let mut pair = Pair::open(alloc, Ha::None, LunNo(0), 2, 3, ROOM, ram)?;
+    let said = crowd(alloc, &mut pair)?;
+    let statuses = [2, 4].map(|no| status(&pair, no));
+    let wanted = [
+        Said::Queued(1),
+        Said::Turned(2),
+        Said::Queued(3),
+        Said::Turned(4),
+    ];
+    assert_eq!(rt; said, wanted);
+    assert_eq!(rt; statuses, [Some(Status::Busy), Some(Status::TaskSetFull)]);
     Ok(())
 }
 

@@ -22,7 +22,7 @@ use Rattle.ct_plan.proofs.Lists.{gets_among-append}
 
 -- every operation is inside the disk
 
-lba_is : (phase : Phase) (count place lba : ℕ) → lba_of (operation_of phase count place lba) ≡ lba
+pub lba_is : (phase : Phase) (count place lba : ℕ) → lba_of (operation_of phase count place lba) ≡ lba
 lba_is phase.Get count place lba = refl
 lba_is phase.Look count place lba = refl
 lba_is phase.Put count place lba = refl

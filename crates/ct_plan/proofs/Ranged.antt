@@ -130,7 +130,7 @@ phase_within at n count place done sum within = elim (cases_lt at n) [
 
 -- the puts among the first operations
 
-put_of : (phase : Phase) (count place lba : ℕ) → is_put (operation_of phase count place lba) ≡ writes phase
+pub put_of : (phase : Phase) (count place lba : ℕ) → is_put (operation_of phase count place lba) ≡ writes phase
 put_of phase.Get count place lba = refl
 put_of phase.Look count place lba = refl
 put_of phase.Put count place lba = refl

@@ -17,7 +17,9 @@ use Rattle.ct_plan.specs.Plans.{gets_among}
 use Rattle.ct_plan.specs.Cells.{Cells, Progress, after, after_all, difference_at, unless, performed, joined_where}
 use Rattle.ct_plan.specs.Tasks.{IsReady, IsInside, IsCovered, left, cells_of}
 use Rattle.ct_plan.specs.Pieces.{Makes, Performs, Uses, Advances, fault_of, fault_behind, tried, unfailed_end, end_of}
-use Rattle.ct_plan.proofs.Lists.{slice_get-drop, slice_get-within, take-one_more, drop-at, gets_among-cons}
+use Rattle.ct_plan.specs.Pieces.{IsReadAmong, LastIsRead}
+use Rattle.ct_plan.proofs.Lists.{slice_get-drop, slice_get-take, slice_get-within, take-one_more, drop-at}
+use Rattle.ct_plan.proofs.Lists.{gets_among-cons}
 use Rattle.ct_plan.proofs.Lists.{gets_among-append}
 use Rattle.ct_plan.proofs.Performing.{after_all-append, performed-on, performed-stopped, performed-all, performed-cells}
 use Rattle.ct_plan.proofs.Performing.{made_within, difference_still}
@@ -269,3 +271,15 @@ module _ (out : List ℕ) (pieces : List BlockOp) (old new : Task) (before after
           → take piece.moved (tried pieces fault) ≡ take piece.moved pieces
       front None within = refl
       front (Some place) within = take-take piece.moved place pieces (omega (arith, within, length-take place pieces))
+
+-- the last of some operations has read, behind one that has
+pub last_is_read : (operations : List BlockOp) (moved : ℕ) (operation : BlockOp) (blocks buffers : List (List ℕ))
+    → slice_get operations moved ≡ Some operation → IsReadAmong blocks buffers operation
+    → LastIsRead operations (moved + 1) blocks buffers
+last_is_read operations moved operation blocks buffers found read = rw (add-one, found) read
+
+pub last_is_still_read : (operations : List BlockOp) (moved : ℕ) (blocks buffers : List (List ℕ))
+    → LastIsRead operations moved blocks buffers → LastIsRead (take moved operations) moved blocks buffers
+last_is_still_read operations zero blocks buffers read = read
+last_is_still_read operations (suc moved) blocks buffers read =
+    rw (slice_get-take (suc moved) operations moved (omega arith)) read

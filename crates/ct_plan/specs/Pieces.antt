@@ -1,5 +1,6 @@
 -- What a piece of a plan does: some of its operations, one after another.
-use Rattle.std.specs.Prelude.{◌≡◌, ℕ, ◌+◌, ◌*◌, ◌<◌, ◌==◌, Bool, true, false, List, [], ◌∷◌, length, take, slice_get}
+use Rattle.std.specs.Prelude.{◌≡◌, ℕ, zero, suc, ◌+◌, ◌*◌, ◌<◌, ◌==◌, ⊤, Bool, true, false, List, [], ◌∷◌, length, take}
+use Rattle.std.specs.Prelude.{slice_get, slice_index_or}
 use Rattle.std.specs.Prelude.{Option, None, Some, IfSome, option_map, if◌then◌else◌}
 use Rattle.ct_word.specs.Kept.{Kept}
 use Rattle.ct_pool.specs.Leases.{PoolState, LeaseState, IsLeaseOf, KeepsOthers, leases_out}
@@ -98,3 +99,22 @@ pub record Performs (out : List ℕ) (operation : BlockOp) (old new : Kept ℕ) 
     pub room : new.room + 512 * gets_among (operation ∷ []) ≡ old.room
     pub grown : length new.items ≡ length old.items + 512 * gets_among (operation ∷ [])
     pub size : length blocks' ≡ length blocks
+
+-- an operation that reads has its block in this buffer
+abbrev pub IsRead : List (List ℕ) → List ℕ → BlockOp → Type 0
+IsRead blocks buffer (operations.Get lba) = buffer ≡ slice_index_or blocks lba []
+IsRead blocks buffer (operations.Look lba) = buffer ≡ slice_index_or blocks lba []
+IsRead blocks buffer (operations.Put lba place) = ⊤
+IsRead blocks buffer (operations.Zero lba) = ⊤
+IsRead blocks buffer (operations.Compare lba place) = buffer ≡ slice_index_or blocks lba []
+
+-- an operation that reads has its block in one of these buffers
+pub record IsReadAmong (blocks buffers : List (List ℕ)) (operation : BlockOp) : Type 0 where
+  pub place : ℕ
+  pub within : place < length buffers
+  pub read : IsRead blocks (slice_index_or buffers place []) operation
+
+-- so has the last of so many of these operations
+abbrev pub LastIsRead : List BlockOp → ℕ → List (List ℕ) → List (List ℕ) → Type 0
+LastIsRead operations zero blocks buffers = ⊤
+LastIsRead operations (suc moved) blocks buffers = IfSome (slice_get operations moved) (IsReadAmong blocks buffers)

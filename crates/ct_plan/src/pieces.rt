@@ -1,11 +1,12 @@
 ghost use Rattle.std.specs.Prelude.{◌≡◌, ◌+◌, ◌-◌, ◌*◌, ◌^◌, ◌<◌, ◌≤◌, [], ◌∷◌, ◌++◌, length, slice_set};
-ghost use Rattle.std.specs.Prelude.{slice_index_or, option_map, OnOk, OnErr, OnSome, IfOk, IfSome, None};
+ghost use Rattle.std.specs.Prelude.{slice_index_or, option_map, OnOk, OnErr, OnSome, IfOk, IfSome, IsNone, None};
 ghost use Rattle.ct_word.specs.Causes.{HasCause, no_end};
-ghost use Rattle.ct_pool.specs.Leases.{IsLeaseOf};
+ghost use Rattle.ct_pool.specs.Leases.{IsLeaseOf, blocks_of};
 ghost use Rattle.ct_plan.specs.Plans.{gets_among};
 ghost use Rattle.ct_plan.specs.Cells.{out_block, zero_block, first_difference, difference_at};
 ghost use Rattle.ct_plan.specs.Tasks.{IsReady, IsInside, IsCovered, IsTold, asked, cells_of};
 ghost use Rattle.ct_plan.specs.Pieces.{Advances, Uses, Makes, Performs, fault_of, fault_in, unfailed_end};
+ghost use Rattle.ct_plan.specs.Pieces.{IsRead, IsReadAmong, LastIsRead};
 
 use crate::operation::BlockOp;
 use crate::task::{Piece, PieceEnd, Task};
@@ -43,6 +44,7 @@ fn get<B: Backend>(
     ensures got { OnOk result (body.new.items ≡ body.old.items ++ slice_index_or (B.blocks medium.old) lba []) }
     ensures grown { OnOk result (length body.new.items ≡ length body.old.items + 512) }
     ensures room { OnOk result (body.new.room + 512 ≡ body.old.room) }
+    ensures read { OnOk result (buffer.new ≡ slice_index_or (B.blocks medium.new) lba []) }
     ensures kept { OnErr result (body.new ≡ body.old) }
     ensures stays { B.blocks medium.new ≡ B.blocks medium.old }
     ensures cause { HasCause no_end (B.faults medium.old) (B.faults medium.new) result }
@@ -78,6 +80,7 @@ fn compare<B: Backend>(
     ensures found { IfOk result (λ found.
         found ≡ option_map (λ at. 512 * place + at)
         (first_difference (slice_index_or (B.blocks medium.old) lba []) bytes.now)) }
+    ensures read { OnOk result (buffer.new ≡ slice_index_or (B.blocks medium.new) lba []) }
     ensures stays { B.blocks medium.new ≡ B.blocks medium.old }
     ensures cause { HasCause no_end (B.faults medium.old) (B.faults medium.new) result }
 {
@@ -105,6 +108,7 @@ fn perform<B: Backend>(
         Performs out.now operation body.old body.new (B.blocks medium.old) (B.blocks medium.new)) }
     ensures found { IfOk result (λ found.
         found ≡ difference_at out.now operation (record { blocks = B.blocks medium.old; got = body.old.items })) }
+    ensures read { OnOk result (IsRead (B.blocks medium.new) buffer.new operation) }
     ensures kept { OnErr result (body.new ≡ body.old) }
     ensures stays { OnErr result (B.blocks medium.new ≡ B.blocks medium.old) }
     ensures cause { HasCause no_end (B.faults medium.old) (B.faults medium.new) result }
@@ -149,6 +153,7 @@ fn make<B: Backend>(
     ensures made { OnOk result (Makes out.now (operation ∷ []) t.old t.new (B.blocks medium.old) (B.blocks medium.new)) }
     ensures found { IfOk result (λ found.
         found ≡ difference_at out.now operation (cells_of (B.blocks medium.old) t.old)) }
+    ensures read { OnOk result (IsReadAmong (B.blocks medium.new) (blocks_of pool.new t.old.lease) operation) }
     ensures kept { OnErr result (t.new ≡ t.old) }
     ensures stays { OnErr result (B.blocks medium.new ≡ B.blocks medium.old) }
     ensures pool { Uses pool.old pool.new t.old.lease }
@@ -184,7 +189,8 @@ fn unfailed(t: &Task) -> Option<PieceEnd>
 }
 
 /// Makes the next operations of a task's plan, at most `blocks` of them, and fewer only where the plan ends, a compare
-/// finds a difference or the medium fails. It takes no memory.
+/// finds a difference or the medium fails. Each reads its block into one of the leased blocks, if it reads. It takes no
+/// memory.
 pub fn advance<B: Backend>(
     t: &mut Task,
     out: &[u8],
@@ -194,7 +200,10 @@ pub fn advance<B: Backend>(
 ) -> Piece
     requires left { t.old.done < length t.old.plan.operations }
     requires ready { IsReady (length out.now) (length (B.blocks medium.old)) pool.old t.old }
-    ensures moved { Advances out.now (asked t.old blocks) t.old t.new (B.blocks medium.old) (B.blocks medium.new) result (fault_in result) }
+    ensures moved { Advances out.now (asked t.old blocks) t.old t.new (B.blocks medium.old) (B.blocks medium.new) result
+        (fault_in result) }
+    ensures read { IsNone (fault_in result) →
+        LastIsRead (asked t.old blocks) result.moved (B.blocks medium.new) (blocks_of pool.new t.old.lease) }
     ensures pool { Uses pool.old pool.new t.old.lease }
     ensures ready { IsReady (length out.now) (length (B.blocks medium.new)) pool.new t.new }
     ensures cause { OnSome (fault_in result) (B.faults medium.old < B.faults medium.new) }

@@ -2,7 +2,8 @@
 use Rattle.std.proofs.Common.{◌≡◌, ◌<◌, ◌≤◌, ◌^◌, length, take, None}
 use Rattle.ct_plan.specs.Cells.{performed}
 use Rattle.ct_plan.specs.Tasks.{IsReady, left, cells_of}
-use Rattle.ct_plan.specs.Pieces.{Makes, Uses}
+use Rattle.ct_pool.specs.Leases.{blocks_of}
+use Rattle.ct_plan.specs.Pieces.{Makes, Uses, LastIsRead}
 use Rattle.ct_plan.proofs.pieces.advance.Given as goal
 
 abbrev pub invariant-loop-moved : goal.invariant-loop-moved
@@ -13,6 +14,7 @@ invariant-loop-moved g l =
       made : Makes l.out (take l.moved (left l.initial.t)) l.initial.t l.t (blocks l.initial.medium) (blocks l.medium);
       even : (performed l.out (take l.moved (left l.initial.t))
           (cells_of (blocks l.initial.medium) l.initial.t)).difference ≡ None;
+      read : LastIsRead (left l.initial.t) l.moved (blocks l.medium) (blocks_of l.pool l.initial.t.lease);
       used : Uses l.initial.pool l.pool l.initial.t.lease;
       ready : IsReady (length l.out) (length (blocks l.medium)) l.pool l.t;
       later : faults l.initial.medium ≤ faults l.medium;
