@@ -45,7 +45,8 @@ int posix_memalign(void **found, size_t align, size_t size) {
 def run(shim, failing):
     """Runs the program, with the allocation of a number failing; 0 fails none."""
     with open(sys.argv[1], "rb") as script:
-        return subprocess.run(sys.argv[2:], stdin=script, capture_output=True, env={"LD_PRELOAD": shim, "FAILING": str(failing)})
+        env = {"LD_PRELOAD": shim, "FAILING": str(failing)}
+        return subprocess.run(sys.argv[2:], stdin=script, capture_output=True, env=env, check=False)
 
 
 def judge(case):
@@ -67,8 +68,9 @@ def main():
         subprocess.run(["cc", "-O2", "-shared", "-fPIC", "-o", shim, source], check=True)
         whole = run(shim, 0)
         count = int(whole.stderr)
+        cases = [(shim, number, whole.stdout) for number in range(1, count + 1)]
         with Pool() as pool:
-            ends = Counter(pool.imap_unordered(judge, [(shim, number, whole.stdout) for number in range(1, count + 1)], 64))
+            ends = Counter(pool.imap_unordered(judge, cases, 64))
     for end, times in sorted(ends.items()):
         print(f"{times:7} {end}")
     sys.exit(any(end.startswith("WRONG") for end in ends))

@@ -1,7 +1,6 @@
 // The same job as a plain Rust program, as a yardstick of time: rustc -O bench/plain.rs
 use std::collections::HashSet;
-use std::fmt::Write as _;
-use std::io::Write as _;
+use std::io::Write;
 use std::ops::RangeInclusive;
 
 const BLOCK: usize = 512;
@@ -70,7 +69,7 @@ struct Unit {
     disk: Vec<[u8; BLOCK]>,
     arrived: u32,
     tasks: Vec<Task>,
-    report: String,
+    report: Vec<u8>,
 }
 
 fn number(word: &str, range: RangeInclusive<u32>) -> Option<u32> {
@@ -82,6 +81,7 @@ fn push_pairs(bytes: &mut Vec<u8>, pairs: &[u8]) -> Option<()> {
     if pairs.is_empty() || pairs.len() % 2 != 0 {
         return None;
     }
+    bytes.reserve(pairs.len() / 2);
     let digit = |byte: u8| (byte as char).to_digit(16);
     for pair in pairs.chunks_exact(2) {
         bytes.push((digit(pair[0])? * 16 + digit(pair[1])?) as u8);
@@ -277,49 +277,48 @@ fn check_condition(key: u8, code: u8) -> String {
     format!("CHECK CONDITION sense 7000{key:02x}000000000a00000000{code:02x}0000000000")
 }
 
-fn push_good(text: &mut String, task: &Task) {
-    write!(text, "ended {} GOOD", task.number).unwrap();
+fn push_good(report: &mut Vec<u8>, task: &Task) {
+    write!(report, "ended {} GOOD", task.number).unwrap();
     if !task.got.is_empty() {
-        text.push_str(" data ");
-        push_bytes(text, &task.got);
+        report.extend_from_slice(b" data ");
+        push_bytes(report, &task.got);
     }
-    text.push('\n');
+    report.push(b'\n');
 }
 
-fn push_bytes(text: &mut String, bytes: &[u8]) {
+fn push_bytes(report: &mut Vec<u8>, bytes: &[u8]) {
     let mut at = 0;
     while at < bytes.len() {
         let run = bytes[at..].iter().take_while(|byte| **byte == bytes[at]).count();
         if at > 0 {
-            text.push('.');
+            report.push(b'.');
         }
         let digits = b"0123456789abcdef";
-        text.push(digits[(bytes[at] / 16) as usize] as char);
-        text.push(digits[(bytes[at] % 16) as usize] as char);
+        report.extend_from_slice(&[digits[(bytes[at] / 16) as usize], digits[(bytes[at] % 16) as usize]]);
         if run > 1 {
-            write!(text, "*{run}").unwrap();
+            write!(report, "*{run}").unwrap();
         }
         at += run;
     }
 }
 
-fn push_disk(text: &mut String, disk: &[[u8; BLOCK]]) {
+fn push_disk(report: &mut Vec<u8>, disk: &[[u8; BLOCK]]) {
     let mut first = 0;
     while first < disk.len() {
         let run = disk[first..].iter().take_while(|block| **block == disk[first]).count();
         if disk[first].iter().any(|byte| *byte != 0) {
-            write!(text, "disk {first} {} ", first + run - 1).unwrap();
-            push_bytes(text, &disk[first]);
-            text.push('\n');
+            write!(report, "disk {first} {} ", first + run - 1).unwrap();
+            push_bytes(report, &disk[first]);
+            report.push(b'\n');
         }
         first += run;
     }
 }
 
-fn play(script: Script) -> String {
-    let Some(blocks) = script.blocks else { return String::from("report 1\ndone\n") };
+fn play(script: Script) -> Vec<u8> {
+    let Some(blocks) = script.blocks else { return b"report 1\ndone\n".to_vec() };
     let disk = vec![[0; BLOCK]; blocks as usize];
-    let mut unit = Unit { disk, arrived: 0, tasks: Vec::new(), report: String::from("report 1\nlun 0\n") };
+    let mut unit = Unit { disk, arrived: 0, tasks: Vec::new(), report: b"report 1\nlun 0\n".to_vec() };
     for (index, line) in script.lines.into_iter().enumerate() {
         match line {
             Line::Lun { .. } | Line::Port | Line::Map { .. } => {}
@@ -330,12 +329,14 @@ fn play(script: Script) -> String {
     }
     unit.drain();
     push_disk(&mut unit.report, &unit.disk);
-    unit.report.push_str("done\n");
+    unit.report.extend_from_slice(b"done\n");
     unit.report
 }
 
 fn main() {
     let script = std::io::read_to_string(std::io::stdin()).ok().and_then(|text| parse_script(&text));
     let Some(script) = script else { std::process::exit(3) };
-    std::io::stdout().write_all(play(script).as_bytes()).unwrap();
+    if std::io::stdout().write_all(&play(script)).is_err() {
+        std::process::exit(5);
+    }
 }

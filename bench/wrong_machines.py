@@ -1,8 +1,8 @@
 #!/usr/bin/env python3
 """Changed machines against the law: bench/wrong_machines.py [NAME ..]
-Each changes one definition of ct_machine in a copy, and there a clause of the law is proved to be false of one run. On the
-machine as it is the same proof is refused, and what the clause comes to at that script is proved. A line for each machine; the
-status is 1 where one isn't refuted."""
+Each changes one definition of ct_machine in a copy, and there a clause of the law is proved to be false of one run. On
+the machine as it is the same proof is refused, and what the clause comes to at that script is proved. A line for each
+machine; the status is 1 where one isn't refuted."""
 import os
 import re
 import shutil
@@ -25,7 +25,8 @@ use Rattle.ct_machine.specs.Runs.{Move, replay, journal_of}
 use Rattle.ct_machine.specs.Serial.{serial_disk}
 use Rattle.ct_machine.specs.Laws.{has, is_begin, is_entry, comes_first, made_by, beside}
 use Rattle.ct_machine.specs.Laws.{IsOrderly, RecordsPrefix, EachOnce, IsByCells, IsLawful}
-use Rattle.ct_machine.proofs.Samples.Parts.{machine, unit_of, command, comes, write10, write, read, asks, step, deliver, bytes}
+use Rattle.ct_machine.proofs.Samples.Parts.{machine, unit_of, command, comes, write10, write, read, bytes}
+use Rattle.ct_machine.proofs.Samples.Parts.{asks, step, deliver}
 
 abbrev unit : Opening
 unit = unit_of ha.MODE 16
@@ -57,7 +58,8 @@ class Machine:
         return HEAD.replace("MODE", self.mode).replace("SCRIPT", " ∷ ".join(self.script))
 
     def refutation(self):
-        return f"{self.head()}refuted : {self.clause} unit journal → ⊥\nunfolding machine beside\nrefuted law = {self.proof}\n"
+        refuted = f"refuted : {self.clause} unit journal → ⊥\nunfolding machine beside\nrefuted law = {self.proof}\n"
+        return self.head() + refuted
 
     def keeping(self):
         return f"{self.head()}kept : {self.kept}\nunfolding machine beside\nkept = refl\n"
@@ -83,7 +85,8 @@ MACHINES = [
         "blocked_by [] s task = blocker_of (task_set_of s) (held_of (length s.blocks) task)",
         "blocked_by [] s task =\n"
         "    if is_head task.command.attr then None else blocker_of (task_set_of s) (held_of (length s.blocks) task)",
-        "None", ["read 5 A 0 1 0 2", "step 1 1", "comes A (command 7 A 1 1 Head (write10 0 1) (bytes 0x22 1))", "step 2 1"],
+        "None",
+        ["read 5 A 0 1 0 2", "step 1 1", "comes A (command 7 A 1 1 Head (write10 0 1) (bytes 0x22 1))", "step 2 1"],
         "IsOrderly", false_is_true(at(6, " 1 _ _ (λ e. differ (ap (λ (n : ℕ). n == 1) e)) refl refl refl refl")),
         "has (is_begin 2) journal ≡ false",
         "use Rattle.ct_matrix.specs.Conflicts.{is_head}\n"),
@@ -97,7 +100,8 @@ MACHINES = [
         "comes_first (is_entry 1) (is_entry 2) journal ≡ true"),
     # a cut command stays and moves after its entry
     Machine(
-        "cut-moves-on", "Events", CUT, "cut_at (By by) _ task s = record s { functions = noted by task.no s.functions }",
+        "cut-moves-on", "Events", CUT,
+        "cut_at (By by) _ task s = record s { functions = noted by task.no s.functions }",
         "None", ["write 5 A 0 1 0 8 0x33", "step 1 3", ABORT, "step 1 5"],
         "RecordsPrefix", f"differ ({at(8, '')})",
         "made_by 1 journal ≡ 3"),
@@ -111,7 +115,8 @@ MACHINES = [
         "})",
         "None", ["write 5 A 0 1 0 8 0x33", "step 1 5", ABORT],
         "IsLawful",
-        "differ (ap begins_with_zero (law.blocks (record { each = " + "(refl, " * 8 + "tt" + ")" * 8 + "; last = refl }) refl))",
+        "differ (ap begins_with_zero (law.blocks (record { each = "
+        + "(refl, " * 8 + "tt" + ")" * 8 + "; last = refl }) refl))",
         "(replay unit journal).blocks ≡ (serial_disk unit journal).blocks"),
     # a function awaits no granted command
     Machine(
@@ -136,7 +141,8 @@ MACHINES = [
         "stopped = s.stopped ++ awaited_by ask s.tasks;\n"
         "  tasks = filter (λ (task : Task). not (is_hit ask task && is_here task.stage)) s.tasks;",
         "None", ["write 5 A 0 1 0 8 0x33", "step 1 3", ABORT],
-        "EachOnce", false_is_true("law.all (record { tasks = refl; functions = refl; to_a = refl; to_b = refl }) 1 refl"),
+        "EachOnce",
+        false_is_true("law.all (record { tasks = refl; functions = refl; to_a = refl; to_b = refl }) 1 refl"),
         "has (is_entry 1) journal ≡ true"),
 ]
 
@@ -165,7 +171,8 @@ def copy(scratch):
         for name in set(os.listdir(os.path.join(crate, folder))) - set(kept):
             path = os.path.join(crate, folder, name)
             shutil.rmtree(path) if os.path.isdir(path) else os.remove(path)
-    put(crate, "src/lib.rt", "//! The written machine.\n#![tactic(auto)]\n\nmod act;\n\npub use act::{Act, Answer, Opening};\n")
+    lib = "//! The written machine.\n#![tactic(auto)]\n\nmod act;\n\npub use act::{Act, Answer, Opening};\n"
+    put(crate, "src/lib.rt", lib)
     put(crate, "specs/Lib.antt", "".join(f"pub mod {module}\n" for module in SPECS))
     parts = read(crate, "proofs/Samples/Parts.antt")
     shutil.rmtree(os.path.join(crate, "proofs"))
