@@ -41,7 +41,7 @@ impl FaultyRam {
     }
 
     /// All blocks, in order.
-    pub fn blocks(&self) -> &[Block]
+    pub fn blocks(&self) -> &[[u8; 512]]
         ensures { result.now ≡ self.now.blocks }
     {
         self.ram.blocks()

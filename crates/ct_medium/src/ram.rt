@@ -9,7 +9,7 @@ use std::mem;
 /// A medium in memory, seen as the list of its blocks. It never fails.
 #[derive(Debug, Drop)]
 pub struct Ram {
-    list: Vec<Block>,
+    list: Vec<[u8; 512]>,
 }
 
 impl Model for Ram {
@@ -29,7 +29,7 @@ impl Ram {
     {
         let mut list = Vec::with_capacity(alloc, blocks as usize)?;
         for _ in 0..blocks {
-            list.push(Block::zeros(alloc)?)?;
+            list.push(zeros())?;
         }
         Ok(Ram { list })
     }
@@ -38,11 +38,11 @@ impl Ram {
         requires { lba < length self.now }
         ensures { result.now ≡ slice_index_or self.now lba [] }
     {
-        self.list[lba as usize].bytes()
+        &self.list[lba as usize]
     }
 
     /// All blocks, in order.
-    pub fn blocks(&self) -> &[Block]
+    pub fn blocks(&self) -> &[[u8; 512]]
         ensures { result.now ≡ self.now }
     {
         self.list.as_slice()
@@ -78,7 +78,13 @@ impl Backend for Ram {
         ensures put { self.new ≡ slice_set self.old lba block.old }
         ensures given { block.new ≡ slice_index_or self.old lba [] }
     {
-        mem::swap(&mut self.list[lba as usize], block);
+        mem::swap(&mut self.list[lba as usize], block.bytes_mut());
         Ok(())
     }
+}
+
+fn zeros() -> [u8; 512]
+    ensures { result ≡ replicate 512 0 }
+{
+    [0; 512]
 }

@@ -1,3 +1,5 @@
 pub mod Places
 pub mod Running
+pub mod Alone
+pub mod Zeros
 pub mod Lines

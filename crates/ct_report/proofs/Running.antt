@@ -1,18 +1,23 @@
 -- The first run of a list, and what is behind it.
-use Rattle.std.proofs.Common.{◌≡◌, ℕ, ◌+◌, Bool, true, false, not, nat_eq, List, [], ◌∷◌, length, drop, refl, sym, ap, ◌∙◌, arith, Decides, bytes_eq, subst, ◌++◌, ◌<◌, append_assoc, get_or}
+use Rattle.std.proofs.Common.{◌≡◌, ℕ, ◌+◌, ◌-◌, take, Bool, true, false, not, nat_eq, List, [], ◌∷◌, ◌==◌, length, drop, refl, sym, ap, ◌∙◌, arith, Decides, bytes_eq, subst, ◌++◌, ◌<◌, append_assoc, get_or}
 use Rattle.std.specs.List.{between}
+use Rattle.std.proofs.lemmas.List.{take_all, take-append-le, length-append}
 use Rattle.std.proofs.lemmas.Slice.{first_rest}
 use Rattle.std.proofs.lemmas.List.{take_rest}
 use native.Mathlib.Numerals.{one-add}
 use Rattle.std.specs.List.{position_or_len}
-use Rattle.std.proofs.lemmas.Bool.Decides.{Decides-eqb}
+use Rattle.std.proofs.lemmas.Bool.Decides.{Decides-eqb, nat_tests}
 use Rattle.std.proofs.lemmas.Slice.Eq.{bytes_eq-Decides}
-use Rattle.ct_report.specs.ByteText.{run_text, behind_dots, text_of_runs, text_of_bytes}
+use Rattle.ct_report.specs.ByteText.{run_text, behind_dots, text_of_runs, text_of_bytes, before_dots, dotted_text}
 use Rattle.ct_report.specs.DiskText.{block_run_text, block_runs_text}
 use Rattle.ct_report.specs.Runs.{Run, with_front, runs_of}
 
+-- a list that isn't empty, as a test tells it
+pub not_empty : (xs : List ℕ) (empty : Bool) → empty ≡ (length xs == 0) → empty ≡ false → 0 < length xs
+not_empty xs empty test e = grind (arith, nat_tests)
+
 -- a run of so many items
-abbrev run_of : {X : Type 0} → X → ℕ → Run X
+abbrev pub run_of : {X : Type 0} → X → ℕ → Run X
 run_of x n = record { item = x; count = n }
 
 -- how many items are equal to this one, up to the first that isn't
@@ -37,31 +42,52 @@ pub runs_first : {X : Type 0} (same : X → X → Bool) (decides : (a b : X) →
 runs_first same decides x [] = refl
 runs_first same decides x (y ∷ ys) = begins same decides x y ys (runs_first same decides y ys)
 
-byte_runs_first : (first : ℕ) (others : List ℕ) → runs_of nat_eq (first ∷ others) ≡ run_of first (ahead nat_eq first others + 1) ∷ runs_of nat_eq (drop (ahead nat_eq first others) others)
+pub byte_runs_first : (first : ℕ) (others : List ℕ) → runs_of nat_eq (first ∷ others) ≡ run_of first (ahead nat_eq first others + 1) ∷ runs_of nat_eq (drop (ahead nat_eq first others) others)
 byte_runs_first first others = runs_first nat_eq Decides-eqb first others
 
--- the first run in print, and the rest behind it
-pub first_run_text : (old new bytes : List ℕ) (n : ℕ) → 0 < length bytes → n ≡ ahead nat_eq (get_or bytes 0 0) (between 1 (length bytes) bytes) → new ≡ old ++ run_text (run_of (get_or bytes 0 0) (n + 1)) → new ++ behind_dots (runs_of nat_eq (between n (length (between 1 (length bytes) bytes)) (between 1 (length bytes) bytes))) ≡ old ++ text_of_bytes bytes
-first_run_text old new bytes n some count text =
+-- the first run in print, and the rest behind its dot
+pub first_run_text : (old printed new bytes : List ℕ) (n : ℕ) → 0 < length bytes → n ≡ ahead nat_eq (get_or bytes 0 0) (between 1 (length bytes) bytes) → printed ≡ old ++ run_text (run_of (get_or bytes 0 0) (n + 1)) → new ≡ printed ++ 46 ∷ [] → new ++ dotted_text (between n (length (between 1 (length bytes) bytes)) (between 1 (length bytes) bytes)) ≡ old ++ dotted_text bytes
+first_run_text old printed new bytes n some count print dot =
     let first = get_or bytes 0 0 in
     let others = between 1 (length bytes) bytes in
     let runs : runs_of nat_eq bytes ≡ run_of first (n + 1) ∷ runs_of nat_eq (drop n others) = ap (runs_of nat_eq) (first_rest bytes 0 some) ∙ byte_runs_first first others ∙ ap (λ k. run_of first (k + 1) ∷ runs_of nat_eq (drop k others)) (sym count) in
-    let behind : new ++ behind_dots (runs_of nat_eq (drop n others)) ≡ old ++ text_of_bytes bytes = rw (text, append_assoc) (ap (λ rs. old ++ text_of_runs rs) (sym runs)) in
-    ap (λ rest. new ++ behind_dots (runs_of nat_eq rest)) (take_rest others n) ∙ behind
+    let behind : new ++ dotted_text (drop n others) ≡ old ++ dotted_text bytes = rw (dot, print, append_assoc, append_assoc) (ap (λ rs. old ++ before_dots rs) (sym runs)) in
+    ap (λ rest. new ++ dotted_text rest) (take_rest others n) ∙ behind
 
--- bytes behind a dot
-dotted : (bytes : List ℕ) → 0 < length bytes → behind_dots (runs_of nat_eq bytes) ≡ 46 ∷ text_of_bytes bytes
-dotted [] some = absurd (omega arith)
-dotted (first ∷ others) some = rw byte_runs_first
+dots : (runs : List (Run ℕ)) → behind_dots runs ++ 46 ∷ [] ≡ 46 ∷ before_dots runs
+dots [] = refl
+dots (run ∷ runs) = ap (λ l. 46 ∷ l) (append_assoc (run_text run) (behind_dots runs) (46 ∷ []) ∙ ap (λ l. run_text run ++ l) (dots runs))
 
-pub dotted_step : (all text pushed rest : List ℕ) → text ++ behind_dots (runs_of nat_eq rest) ≡ all → pushed ≡ text ++ 46 ∷ [] → 0 < length rest → pushed ++ text_of_bytes rest ≡ all
-dotted_step all text pushed rest is push some = rw (push, append_assoc) (ap (λ more. text ++ more) (sym (dotted rest some)) ∙ is)
+-- the last run has a dot behind it, too
+pub last_dot : (bytes : List ℕ) → 0 < length bytes → dotted_text bytes ≡ text_of_bytes bytes ++ 46 ∷ []
+last_dot [] some = absurd (omega arith)
+last_dot (x ∷ xs) some =
+    let n = ahead nat_eq x xs in
+    let run : Run ℕ = run_of x (n + 1) in
+    let others = runs_of nat_eq (drop n xs) in
+    let runs : runs_of nat_eq (x ∷ xs) ≡ run ∷ others = byte_runs_first x xs in
+    ap before_dots runs
+    ∙ ap (λ l. run_text run ++ l) (sym (dots others))
+    ∙ sym (append_assoc (run_text run) (behind_dots others) (46 ∷ []))
+    ∙ ap (λ rs. text_of_runs rs ++ 46 ∷ []) (sym runs)
+
+pub without_last_dot : (old text new bytes : List ℕ) (size : ℕ) → 0 < length bytes → text ≡ old ++ dotted_text bytes → size ≡ length text → new ≡ take (size - 1) text → new ≡ old ++ text_of_bytes bytes
+without_last_dot old text new bytes size some is sized cut =
+    let front = old ++ text_of_bytes bytes in
+    let dot : text ≡ front ++ 46 ∷ [] = is ∙ ap (λ l. old ++ l) (last_dot bytes some) ∙ sym (append_assoc old (text_of_bytes bytes) (46 ∷ [])) in
+    let long : length text ≡ length front + 1 = ap length dot ∙ length-append front (46 ∷ []) in
+    let count : size - 1 ≡ length front = omega (arith, long, sized) in
+    cut
+    ∙ ap (λ n. take n text) count
+    ∙ ap (take (length front)) dot
+    ∙ take-append-le (length front) front (46 ∷ []) (omega arith)
+    ∙ take_all (length front) front (omega arith)
 
 -- the first run of blocks in print, and the blocks behind it
-pub first_blocks_text : (old new : List ℕ) (blocks : List (List ℕ)) (first n : ℕ) (block bytes : List ℕ) → 0 < length blocks → block ≡ get_or blocks 0 block → bytes ≡ block → n ≡ ahead bytes_eq bytes (between 1 (length blocks) blocks) → new ≡ old ++ block_run_text first (run_of bytes (1 + n)) → new ++ block_runs_text (first + (1 + n)) (runs_of bytes_eq (drop (1 + n) blocks)) ≡ old ++ block_runs_text first (runs_of bytes_eq blocks)
-first_blocks_text old new blocks first n block bytes some is same count text =
+pub first_blocks_text : (old new : List ℕ) (blocks : List (List ℕ)) (first n : ℕ) (bytes other : List ℕ) → 0 < length blocks → bytes ≡ get_or blocks 0 other → n ≡ ahead bytes_eq bytes (between 1 (length blocks) blocks) → new ≡ old ++ block_run_text first (run_of bytes (1 + n)) → new ++ block_runs_text (first + (1 + n)) (runs_of bytes_eq (drop (1 + n) blocks)) ≡ old ++ block_runs_text first (runs_of bytes_eq blocks)
+first_blocks_text old new blocks first n bytes other some is count text =
     let others = between 1 (length blocks) blocks in
-    let opened : blocks ≡ bytes ∷ others = first_rest blocks block some ∙ ap (λ b. b ∷ others) (sym is ∙ sym same) in
+    let opened : blocks ≡ bytes ∷ others = first_rest blocks other some ∙ ap (λ b. b ∷ others) (sym is) in
     let runs : runs_of bytes_eq blocks ≡ run_of bytes (1 + n) ∷ runs_of bytes_eq (drop n others) =
     ap (runs_of bytes_eq) opened ∙ runs_first bytes_eq bytes_eq-Decides bytes others
     ∙ ap (λ k. run_of bytes k ∷ runs_of bytes_eq (drop (ahead bytes_eq bytes others) others)) (omega arith)

@@ -19,3 +19,16 @@ text_of_runs (run ∷ runs) = run_text run ++ behind_dots runs
 
 abbrev pub text_of_bytes : List ℕ → List ℕ
 text_of_bytes bytes = text_of_runs (runs_of nat_eq bytes)
+
+-- runs in print, each before a dot
+abbrev pub before_dots : List (Run ℕ) → List ℕ
+before_dots [] = []
+before_dots (run ∷ runs) = run_text run ++ 46 ∷ before_dots runs
+
+-- bytes in print, with a dot behind the last run, too
+abbrev pub dotted_text : List ℕ → List ℕ
+dotted_text bytes = before_dots (runs_of nat_eq bytes)
+
+-- a byte that stands alone, before a dot
+abbrev pub alone_text : ℕ → List ℕ
+alone_text byte = encode_lower (byte ∷ []) ++ 46 ∷ []

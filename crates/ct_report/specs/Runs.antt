@@ -15,3 +15,9 @@ with_front same x (run ∷ runs) =
 abbrev pub runs_of : {X : Type 0} → (X → X → Bool) → List X → List (Run X)
 runs_of same [] = []
 runs_of same (x ∷ xs) = with_front same x (runs_of same xs)
+
+-- how many items at the front differ from the one behind them
+abbrev pub alone : {X : Type 0} → (X → X → Bool) → List X → ℕ
+alone same [] = 0
+alone same (x ∷ []) = 1
+alone same (x ∷ y ∷ xs) = if same y x then 0 else alone same (y ∷ xs) + 1
