@@ -265,10 +265,10 @@ fn performed(
 }
 
 // The blocks are of these bytes each.
-fn assert_blocks(rt: &impl Abort, found: &[Block], bytes: [u8; 4]) {
+fn assert_blocks(rt: &impl Abort, found: &[[u8; 512]], bytes: [u8; 4]) {
     assert_eq!(rt; found.len(), 4);
     for (block, byte) in found.iter().zip(bytes) {
-        assert_eq!(rt; *block.bytes(), [byte; 512]);
+        assert_eq!(rt; *block, [byte; 512]);
     }
 }
 
