@@ -1,4 +1,4 @@
-use Rattle.std.proofs.Common.{◌≡◌, ◌≤◌, ◌+◌, ℕ, Bool, Some, None, IsNone, length, refl, sym, ap, ◌∙◌, subst, arith}
+use Rattle.std.proofs.Common.{◌≡◌, ◌≤◌, ◌+◌, ℕ, false, Some, None, IsNone, length, refl, sym, ap, ◌∙◌, subst, arith}
 use Rattle.ct_word.specs.declared.names.Node.TheVariants.{A}
 use Rattle.ct_book.specs.declared.work.Command.{Command}
 use Rattle.ct_book.specs.declared.work.Work.TheVariants as work
