@@ -1,5 +1,5 @@
-ghost use Rattle.std.specs.Prelude.{◌≡◌, ◌<◌, ◌≤◌, length, IfOk};
-ghost use Rattle.ct_cdb.specs.Profiles.{Fits, giving, most_named};
+ghost use Rattle.std.specs.Prelude.{◌≡◌, ◌<◌, ◌≤◌, length, false, IfOk};
+ghost use Rattle.ct_cdb.specs.Profiles.{Fits, giving, has_no_phase, most_named};
 ghost use Rattle.ct_pool.specs.Leases.{leases_out};
 ghost use Rattle.ct_plan.specs.Tasks.{IsReady};
 
@@ -182,6 +182,7 @@ fn does_the_same_in_any_pieces(rt: HostRuntime) -> Result<(), Fail> {
 
 // One phase, or two.
 fn in_order(first: Phase, second: Option<Phase>) -> Few<Phase>
+    ensures some { has_no_phase result ≡ false }
     ensures named { most_named 2 result ≤ 4 }
     ensures giving { giving result ≤ 2 }
 {
@@ -196,18 +197,23 @@ fn row(first: Phase, second: Option<Phase>) -> Profile
     ensures fits { Fits result }
     ensures room { result.data_in ≡ 2048 }
 {
-    Profile {
+    let mut row = Profile {
         index: SerIdx::Wr,
-        class: Class::Writing,
+        class: Class::Reading,
         reports_attention: true,
         needs_started: true,
-        is_write: true,
+        is_write: false,
         data_out: 2048,
         data_in: 2048,
         need: 5,
         ranges: Ranges::one(1, 2),
         phases: in_order(first, second),
+    };
+    if row.writes() {
+        row.class = Class::Writing;
+        row.is_write = true;
     }
+    row
 }
 
 // Blocks of these bytes each, with another byte at one place.
