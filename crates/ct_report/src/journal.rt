@@ -10,6 +10,7 @@ use crate::answer::{outcome_name, push_reply};
 use ct_book::{Book, Event, Kind2, Why};
 use ct_tmf::Outcome;
 use ct_word::{CmdNo, NoMemory, Node};
+use itoa::Buffer;
 use std::io::Write;
 
 /// Adds the events of a book, in order.
@@ -65,16 +66,24 @@ fn push_event(text: &mut Vec<u8>, book: &Book, event: &Event) -> Result<(), NoMe
 fn push_word(text: &mut Vec<u8>, word: &str, no: CmdNo) -> Result<(), NoMemory>
     ensures { OnOk result (text.new.items ≡ text.old.items ++ word.now ++ decimal no) }
 {
-    let number = no.number();
-    write!(text, "{word}{number}").map_err(|_| NoMemory)
+    text.extend_from_slice(word.as_bytes())?;
+    push_number(text, no.number())
 }
 
 // Adds a word, a number and a count.
 fn push_count(text: &mut Vec<u8>, word: &str, no: CmdNo, count: u32) -> Result<(), NoMemory>
     ensures { OnOk result (text.new.items ≡ text.old.items ++ word.now ++ decimal no ++ codes " " ++ decimal count) }
 {
-    let number = no.number();
-    write!(text, "{word}{number} {count}").map_err(|_| NoMemory)
+    push_word(text, word, no)?;
+    text.push(b' ')?;
+    push_number(text, count)
+}
+
+fn push_number(text: &mut Vec<u8>, number: u32) -> Result<(), NoMemory>
+    ensures { OnOk result (text.new.items ≡ text.old.items ++ decimal number) }
+{
+    text.extend_from_slice(Buffer::new().format(number).as_bytes())?;
+    Ok(())
 }
 
 // Adds a word, the number of a command and its reply.

@@ -1,4 +1,5 @@
 pub mod Cutting
 pub mod Texts
+pub mod HexPairs
 pub mod Judging
 pub mod Names

@@ -1,15 +1,15 @@
 -- Reading byte texts, piece by piece.
-use Rattle.std.proofs.Common.{◌≡◌, ℕ, zero, suc, ◌+◌, ◌-◌, ◌*◌, ◌^◌, ◌<◌, ◌≤◌, min, Bool, true, false, cond, Bor, MatchResult, List, [], ◌∷◌, ◌++◌, length, take, replicate, Option, Some, None, Result, Ok, Err, refl, sym, ap, ◌∙◌, arith}
+use Rattle.std.proofs.Common.{◌≡◌, ℕ, zero, suc, ◌+◌, ◌-◌, ◌*◌, ◌^◌, ◌<◌, ◌≤◌, min, Bool, true, false, cond, Bor, List, [], ◌∷◌, ◌++◌, length, take, replicate, Option, Some, None, Result, Ok, Err, refl, sym, ap, ◌∙◌, arith}
 use Rattle.std.specs.Prelude.{option_map, nat_le, ◌==◌, if◌then◌else◌}
 use Rattle.std.proofs.lemmas.List.{append_assoc, take_all, length-take, length-take-le}
 use Rattle.std.proofs.lemmas.Bool.Decides.{nat_tests}
 use Rattle.std.specs.Result.{result_ok}
 use Rattle.hex.specs.declared.error.FromHexError.{FromHexError}
-use Rattle.hex.specs.Hex.{decode_of, decode_sized}
-use Rattle.hex.proofs.HexLemmas.{decode_of-ok, decode_sized-twice}
+use Rattle.hex.specs.Hex.{decode_of}
+use Rattle.hex.proofs.HexLemmas.{decode_of-ok}
 use Rattle.std.specs.List.{slice_split, onto_first}
 use Rattle.ct_script.specs.Cuts.{parts_of_rest}
-use Rattle.ct_script.specs.ByteText.{pairs_of, single, repeated, is_dot, is_star, bytes_of_parts, piece_of, bytes_of_pieces, bytes_of_text, joined, at_most}
+use Rattle.ct_script.specs.ByteText.{pairs_of, repeated, is_dot, is_star, bytes_of_parts, piece_of, bytes_of_pieces, bytes_of_text, joined, at_most}
 use Rattle.ct_script.specs.Reading.{bytes_of_rest}
 
 -- pairs of digits are twice as long as their bytes, and there is one at least
@@ -24,14 +24,6 @@ pairs_of-some (c ∷ cs) bytes h = by_decoded (decode_of (c ∷ cs)) refl h
         let long : length (c ∷ cs) ≡ 2 * length bytes = sized ∙ ap (λ b. 2 * length b) same in
         (long, omega arith)
     by_decoded (Err f) e h = absurd (cc)
-
-decoded : (text bytes : List ℕ) → pairs_of text ≡ Some bytes → decode_of text ≡ Ok bytes
-decoded [] bytes h = absurd (cc)
-decoded (c ∷ cs) bytes h = by_result (decode_of (c ∷ cs)) h
-  where
-    by_result : (r : Result (List ℕ) FromHexError) → result_ok r ≡ Some bytes → r ≡ Ok bytes
-    by_result (Ok found) e = cc
-    by_result (Err f) e = absurd (cc)
 
 -- Up to so many bytes
 
@@ -108,20 +100,6 @@ at_most_of_kept most (Some all) bytes h = by_length (nat_le (length all) most) r
         let long : length bytes ≡ most + 1 = sym (ap length is) ∙ length-take-le (most + 1) all (omega (arith, many)) in
         let over : nat_le (length bytes) most ≡ false = grind (arith, nat_tests) in
         cc
-
--- what a refusal of `decode_to_slice` says
-refused : (d : Result (List ℕ) FromHexError) (out : List ℕ) (e : FromHexError) → (let r : Result (Unit {0}) FromHexError = Err e in MatchResult d (λ bytes. (r ≡ Ok tt) × (out ≡ bytes)) (λ f. r ≡ Err f)) → (bytes : List ℕ) → d ≡ Ok bytes → ⊥
-refused (Ok found) out e h bytes same = let r : Result (Unit {0}) FromHexError = Err e in let no : r ≡ Ok tt = h.0 in cc
-refused (Err f) out e h bytes same = cc
-
-pub no_single : (pair out : List ℕ) (e : FromHexError) → (let r : Result (Unit {0}) FromHexError = Err e in MatchResult (decode_sized pair 1) (λ bytes. (r ≡ Ok tt) × (out ≡ bytes)) (λ f. r ≡ Err f)) → None ≡ single (pairs_of pair)
-no_single pair out e h = by_pairs (pairs_of pair) refl
-  where
-    by_pairs : (found : Option (List ℕ)) → pairs_of pair ≡ found → None ≡ single found
-    by_pairs None same = refl
-    by_pairs (Some []) same = refl
-    by_pairs (Some (byte ∷ [])) same = absurd (refused (decode_sized pair 1) out e h (byte ∷ []) (decode_sized-twice pair 1 (pairs_of-some pair (byte ∷ []) same).0 ∙ decoded pair (byte ∷ []) same))
-    by_pairs (Some (byte ∷ other ∷ bytes)) same = refl
 
 -- a second star leaves three parts
 three_parts : (pair count rest : List ℕ) → bytes_of_parts (pair ∷ count ∷ slice_split is_star rest) ≡ None

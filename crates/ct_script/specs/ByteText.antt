@@ -1,8 +1,8 @@
 -- Byte texts: how a script writes bytes.
-use Rattle.std.specs.Prelude.{ℕ, List, [], ◌∷◌, ◌++◌, ◌==◌, Bool, length, replicate, nat_le, if◌then◌else◌, Option, Some, None}
+use Rattle.std.specs.Prelude.{ℕ, ◌+◌, ◌*◌, List, [], ◌∷◌, ◌++◌, ◌==◌, Bool, length, replicate, nat_le, if◌then◌else◌, Option, Some, None}
 use Rattle.std.specs.List.{slice_split}
 use Rattle.std.specs.Result.{result_ok}
-use Rattle.hex.specs.Hex.{decode_of}
+use Rattle.hex.specs.Hex.{decode_of, hex_digit_value}
 use Rattle.ct_word.specs.Decimals.{decimal_of}
 
 abbrev pub is_dot : ℕ → Bool
@@ -10,6 +10,15 @@ is_dot b = b == 46
 
 abbrev pub is_star : ℕ → Bool
 is_star b = b == 42
+
+-- the byte of the values of two digits
+abbrev pub byte_of_values : Option ℕ → Option ℕ → Option ℕ
+byte_of_values (Some high) (Some low) = Some (high * 16 + low)
+byte_of_values _ _ = None
+
+-- the byte of two hexadecimal digits, of either case
+abbrev pub pair_byte : ℕ → ℕ → Option ℕ
+pair_byte high low = byte_of_values (hex_digit_value high) (hex_digit_value low)
 
 -- one or more pairs of hexadecimal digits, of either case
 abbrev pub pairs_of : List ℕ → Option (List ℕ)

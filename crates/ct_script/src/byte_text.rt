@@ -7,6 +7,7 @@ ghost use Rattle.ct_script.specs.ByteText.{pairs_of, single, repeated, bytes_of_
 ghost use Rattle.ct_script.specs.Reading.{Extends};
 
 use crate::cuts::cut;
+use crate::digits::{read_pair, read_pairs};
 use ct_word::{Bytes, NoMemory, read_decimal};
 use std::alloc::Global;
 
@@ -64,13 +65,12 @@ fn push_pairs(bytes: &mut Vec<u8>, pairs: &[u8], most: usize) -> Result<bool, No
     requires within { vec_len bytes.old ≤ most }
     ensures { IfOk result (λ ok. Extends most bytes.old.items (pairs_of pairs.now) ok bytes.new.items) }
 {
-    let start = bytes.len();
-    let count = pairs.len() / 2;
-    if count == 0 {
+    if pairs.is_empty() || pairs.len() % 2 != 0 {
         return Ok(false);
     }
-    bytes.resize(start + count, 0)?;
-    let read = hex::decode_to_slice(pairs, &mut bytes[start..]).is_ok();
+    let start = bytes.len();
+    bytes.resize(start + pairs.len() / 2, 0)?;
+    let read = read_pairs(pairs, &mut bytes[start..]);
     bytes.truncate(most);
     Ok(read)
 }
@@ -95,9 +95,8 @@ fn push_run(bytes: &mut Vec<u8>, pair: &[u8], count: &[u8], most: usize) -> Resu
 fn one_byte(pair: &[u8]) -> Option<u8>
     ensures { result ≡ single (pairs_of pair.now) }
 {
-    let mut byte = [0];
-    match hex::decode_to_slice(pair, &mut byte) {
-        Ok(()) => Some(byte[0]),
-        Err(_) => None,
+    match pair {
+        [high, low] => read_pair(*high, *low),
+        _ => None,
     }
 }

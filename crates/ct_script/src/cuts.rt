@@ -6,6 +6,9 @@ ghost use Rattle.ct_script.specs.Cuts.{parts_of_rest};
 
 use memchr::memchr;
 
+/// As many bytes are sooner tested one by one.
+const FEW: usize = 8;
+
 /// The bytes before the first `at`, and those behind it where there is one.
 pub fn cut(bytes: &[u8], at: u8) -> (&[u8], Option<&[u8]>)
     ensures parts { slice_split (λ b. b == at) bytes.now ≡ result.0.now ∷ parts_of_rest at result.1 }
@@ -21,5 +24,8 @@ fn first_place(bytes: &[u8], at: u8) -> Option<usize>
     ensures place { result ≡ position (λ b. b == at) bytes.now }
     ensures within { IfSome result (λ place. place < length bytes.now) }
 {
+    if bytes.len() < FEW {
+        return bytes.iter().position(|b| *b == at);
+    }
     memchr(at, bytes)
 }

@@ -3,6 +3,7 @@
 
 mod byte_text;
 mod cuts;
+mod digits;
 mod forms;
 mod lines;
 mod numbers;

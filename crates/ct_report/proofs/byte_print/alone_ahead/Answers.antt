@@ -1,4 +1,3 @@
-use Rattle.std.proofs.Common.{arith}
 use Rattle.ct_report.proofs.Alone.{all_alone}
 use Rattle.ct_report.proofs.byte_print.alone_ahead.Goals as goal
 

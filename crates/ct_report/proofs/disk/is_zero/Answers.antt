@@ -1,4 +1,3 @@
-use Rattle.std.proofs.Common.{arith}
 use Rattle.ct_report.proofs.Zeros.{zero_more}
 use Rattle.ct_report.proofs.disk.is_zero.Goals as goal
 
