@@ -1,5 +1,6 @@
 -- Blocks of zeros.
-use Rattle.std.proofs.Common.{◌≡◌, ℕ, zero, suc, ◌+◌, ◌<◌, ◌≤◌, ◌==◌, ◌&&◌, Bool, true, false, bit_or, List, [], ◌∷◌, ◌++◌, length, take, drop, get_or, refl, sym, ap, ◌∙◌, arith, bytes_eq}
+use Rattle.std.proofs.Common.{◌≡◌, ℕ, zero, suc, ◌+◌, ◌<◌, ◌≤◌, ◌==◌, ◌&&◌, Bool, true, false, bit_or, List, [], ◌∷◌}
+use Rattle.std.proofs.Common.{◌++◌, length, take, drop, get_or, refl, sym, ap, ◌∙◌, arith, bytes_eq}
 use Rattle.std.specs.List.{between}
 use Rattle.std.specs.Int.Bits.{or_zero_l}
 use Rattle.std.proofs.lemmas.Nat.{le_or_l}
@@ -17,15 +18,19 @@ or_is_zero (suc a) b =
     grind (arith, nat_tests)
 
 -- no bit is set in the bytes so far, and none in one more
-pub zero_more : (bytes : List ℕ) (bits i : ℕ) → i < length bytes → (bits == 0) ≡ is_zero (take i bytes) → (bit_or bits (get_or bytes i 0) == 0) ≡ is_zero (take (i + 1) bytes)
-zero_more bytes bits i within so_far = or_is_zero bits (get_or bytes i 0) ∙ ap (λ t. t && (get_or bytes i 0 == 0)) so_far ∙ sym (list_all_more (λ byte. byte == 0) bytes i 0 within)
+pub zero_more : (bytes : List ℕ) (bits i : ℕ) → i < length bytes → (bits == 0) ≡ is_zero (take i bytes)
+    → (bit_or bits (get_or bytes i 0) == 0) ≡ is_zero (take (i + 1) bytes)
+zero_more bytes bits i within so_far = or_is_zero bits (get_or bytes i 0)
+    ∙ ap (λ t. t && (get_or bytes i 0 == 0)) so_far ∙ sym (list_all_more (λ byte. byte == 0) bytes i 0 within)
 
 -- a block of zeros has no line, and none that begins with it
-zeros_text : (first : ℕ) (block : List ℕ) (runs : List (Run (List ℕ))) → is_zero block ≡ true → block_runs_text first (with_front bytes_eq block runs) ≡ block_runs_text (first + 1) runs
+zeros_text : (first : ℕ) (block : List ℕ) (runs : List (Run (List ℕ))) → is_zero block ≡ true
+    → block_runs_text first (with_front bytes_eq block runs) ≡ block_runs_text (first + 1) runs
 zeros_text first block [] blank = rw blank refl
 zeros_text first block (run ∷ runs) blank = by_test (bytes_eq run.item block) refl
   where
-    by_test : (t : Bool) → bytes_eq run.item block ≡ t → block_runs_text first (with_front bytes_eq block (run ∷ runs)) ≡ block_runs_text (first + 1) (run ∷ runs)
+    by_test : (t : Bool) → bytes_eq run.item block ≡ t → block_runs_text first (with_front bytes_eq block
+        (run ∷ runs)) ≡ block_runs_text (first + 1) (run ∷ runs)
     by_test true e =
         let same : run.item ≡ block = (bytes_eq-Decides run.item block).0 e in
         let blank_too : is_zero run.item ≡ true = ap is_zero same ∙ blank in
@@ -33,7 +38,10 @@ zeros_text first block (run ∷ runs) blank = by_test (bytes_eq run.item block) 
         rw (e, blank, blank_too) (ap (λ n. block_runs_text n runs) count)
     by_test false e = rw (e, blank) refl
 
-pub zero_block_text : (text : List ℕ) (blocks : List (List ℕ)) (first : ℕ) (bytes other : List ℕ) → 0 < length blocks → bytes ≡ get_or blocks 0 other → is_zero bytes ≡ true → text ++ block_runs_text (first + 1) (runs_of bytes_eq (drop 1 blocks)) ≡ text ++ block_runs_text first (runs_of bytes_eq blocks)
+pub zero_block_text : (text : List ℕ) (blocks : List (List ℕ)) (first : ℕ) (bytes other : List ℕ) → 0 < length blocks
+    → bytes ≡ get_or blocks 0 other → is_zero bytes ≡ true
+    → text ++ block_runs_text (first + 1) (runs_of bytes_eq (drop 1 blocks)) ≡ text ++ block_runs_text first
+    (runs_of bytes_eq blocks)
 zero_block_text text blocks first bytes other some is blank =
     let others = between 1 (length blocks) blocks in
     let opened : blocks ≡ bytes ∷ others = first_rest blocks other some ∙ ap (λ b. b ∷ others) (sym is) in

@@ -1,6 +1,7 @@
 //! Bytes in print: maximal runs, with dots between them.
 
-ghost use Rattle.std.specs.Prelude.{◌≡◌, ◌≤◌, ◌<◌, ◌+◌, ◌-◌, ◌++◌, ◌==◌, ◌∷◌, [], not, nat_eq, length, map, position, IfSome, IfOk, OnOk};
+ghost use Rattle.std.specs.Prelude.{◌≡◌, ◌≤◌, ◌<◌, ◌+◌, ◌-◌, ◌++◌, ◌==◌, ◌∷◌, [], not, nat_eq, length, map, position};
+ghost use Rattle.std.specs.Prelude.{IfSome, IfOk, OnOk};
 ghost use Rattle.std.specs.List.{position_or_len, flat_map};
 ghost use Rattle.hex.specs.Hex.{encode_lower};
 ghost use Rattle.ct_report.specs.Runs.{alone};
@@ -81,7 +82,8 @@ fn alone_text(byte: u8) -> [u8; 3]
 
 // Adds the first run in print with a dot behind it, if there is one, and gives the bytes behind it.
 fn push_first_run<'a>(text: &mut Vec<u8>, bytes: &'a [u8]) -> Result<&'a [u8], NoMemory>
-    ensures text { IfOk result (λ rest. text.new.items ++ dotted_text rest.now ≡ text.old.items ++ dotted_text bytes.now) }
+    ensures text { IfOk result (λ rest.
+        text.new.items ++ dotted_text rest.now ≡ text.old.items ++ dotted_text bytes.now) }
     ensures shorter { IfOk result (λ rest. length rest.now ≤ length bytes.now - 1) }
 {
     if bytes.is_empty() {

@@ -1,6 +1,7 @@
 //! The lines of a disk.
 
-ghost use Rattle.std.specs.Prelude.{◌≡◌, ◌≤◌, ◌<◌, ◌+◌, ◌^◌, ◌++◌, false, not, length, drop, bytes_eq, position, IfOk, IfSome, OnOk};
+ghost use Rattle.std.specs.Prelude.{◌≡◌, ◌≤◌, ◌<◌, ◌+◌, ◌^◌, ◌++◌, false, not, length, drop, bytes_eq, position, IfOk};
+ghost use Rattle.std.specs.Prelude.{IfSome, OnOk};
 ghost use Rattle.std.specs.List.{position_or_len};
 ghost use Rattle.ct_report.specs.Runs.{runs_of};
 ghost use Rattle.ct_report.specs.DiskText.{is_zero, block_run_text, block_runs_text, disk_text};

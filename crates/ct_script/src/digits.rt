@@ -1,4 +1,5 @@
-//! Pairs of hexadecimal digits, by a table: at a branch the processor would guess the kind of each digit, and often wrongly.
+//! Pairs of hexadecimal digits, by a table: at a branch the processor would guess the kind of each digit, and often
+//! wrongly.
 
 ghost use Rattle.std.specs.Prelude.{◌≡◌, ◌*◌, ◌<◌, length, true, false, unwrap_or, MatchOption};
 ghost use Rattle.hex.specs.Hex.{hex_digit_value};

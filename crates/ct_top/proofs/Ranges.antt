@@ -1,5 +1,6 @@
 -- Blocks and block operations of a script are in their ranges.
-use Rattle.std.proofs.Common.{◌≡◌, ℕ, suc, ◌≤◌, ◌<◌, Bool, true, false, List, [], ◌∷◌, Result, Ok, Err, length, refl, arith, cond, ◌||◌}
+use Rattle.std.proofs.Common.{◌≡◌, ℕ, suc, ◌≤◌, ◌<◌, Bool, true, false, List, [], ◌∷◌, Result, Ok, Err, length, refl}
+use Rattle.std.proofs.Common.{arith, cond, ◌||◌}
 use Rattle.std.specs.Prelude.{IfSome, sum_by, count_by, nat_lt}
 use Rattle.std.proofs.lemmas.Bool.{ltb-false}
 use Rattle.std.proofs.lemmas.List.Sums.{sum_by-cons}
@@ -19,13 +20,15 @@ use Rattle.ct_exec.specs.Executions.{plan_in}
 use Rattle.ct_script.specs.declared.script.Line.{Line}
 use Rattle.ct_script.specs.declared.script.Word.{Word}
 use Rattle.ct_script.specs.declared.script.Word.TheVariants.{Lun, Port, Map, Cmd, Step, Drain, Sync}
-use Rattle.ct_script.specs.Rules.{IsInRange, AreInRange, IsWithin, is_command, line_asked, word_line_asked, cdb_asked, data_bytes}
+use Rattle.ct_script.specs.Rules.{IsInRange, AreInRange, IsWithin, is_command, line_asked, word_line_asked, cdb_asked}
+use Rattle.ct_script.specs.Rules.{data_bytes}
 use Rattle.ct_top.specs.Commands.{command_in, pieces_by, pieces_in, room_of, declared_blocks}
 
 pub blocks_in_range : (lines : List Line) → AreInRange lines
     → IfSome (declared_blocks lines) (λ blocks. (1 ≤ blocks) × (blocks ≤ MOST_BLOCKS))
 blocks_in_range [] h = tt
-blocks_in_range (line ∷ lines) h = go line.word (h 0 line (omega arith)) (blocks_in_range lines (λ k d within. h (suc k) d (omega (arith, within))))
+blocks_in_range (line ∷ lines) h = go line.word (h 0 line (omega arith)) (blocks_in_range lines (λ k d within. h
+    (suc k) d (omega (arith, within))))
   where
     go : (word : Word) → IsInRange word
         → IfSome (declared_blocks lines) (λ blocks. (1 ≤ blocks) × (blocks ≤ MOST_BLOCKS))

@@ -11,4 +11,5 @@ abbrev pub decreases-loop-chunk : goal.decreases-loop-chunk
 decreases-loop-chunk l = length l.rest
 
 abbrev pub invariant-loop-byte : goal.invariant-loop-byte
-invariant-loop-byte l = l.text.items ++ flat_map alone_text (drop l.byte-index l.byte-items) ≡ l.fn.text.items ++ flat_map alone_text l.bytes
+invariant-loop-byte l = l.text.items ++ flat_map alone_text
+    (drop l.byte-index l.byte-items) ≡ l.fn.text.items ++ flat_map alone_text l.bytes

@@ -7,7 +7,8 @@ use Rattle.ct_report.proofs.disk.push_disk.Given as goal
 abbrev pub invariant-loop-first : goal.invariant-loop-first
 invariant-loop-first l = record {
   within : l.first ≤ length l.blocks;
-  text : l.text.items ++ block_runs_text l.first (runs_of bytes_eq (drop l.first l.blocks)) ≡ l.fn.text.items ++ disk_text l.blocks;
+  text : l.text.items ++ block_runs_text l.first (runs_of bytes_eq
+      (drop l.first l.blocks)) ≡ l.fn.text.items ++ disk_text l.blocks;
 }
 
 abbrev pub decreases-loop-first : goal.decreases-loop-first

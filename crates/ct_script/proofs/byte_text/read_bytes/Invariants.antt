@@ -8,7 +8,8 @@ use Rattle.ct_script.proofs.byte_text.read_bytes.Given as goal
 abbrev pub invariant-loop-rest : goal.invariant-loop-rest
 invariant-loop-rest l = record {
   within : length l.bytes.items ≤ l.most;
-  all : option_map (take l.most) (joined (Some l.bytes.items) (bytes_of_rest l.rest)) ≡ option_map (take l.most) (bytes_of_text l.text);
+  all : option_map (take l.most) (joined (Some l.bytes.items) (bytes_of_rest l.rest)) ≡ option_map (take l.most)
+      (bytes_of_text l.text);
 }
 
 abbrev pub decreases-loop-rest : goal.decreases-loop-rest

@@ -5,4 +5,5 @@ use Rattle.ct_script.proofs.digits.read_pairs.Given as goal
 
 -- the bytes so far and those of the pairs that are left are those of all pairs
 abbrev pub invariant-loop-place : goal.invariant-loop-place
-invariant-loop-place l = decode_pairs 0 l.pairs ≡ prepend (take l.place l.into) (decode_pairs (2 * l.place) (drop (2 * l.place) l.pairs))
+invariant-loop-place l = decode_pairs 0 l.pairs ≡ prepend (take l.place l.into) (decode_pairs (2 * l.place) (drop
+    (2 * l.place) l.pairs))
