@@ -4,13 +4,39 @@ import os
 import random
 import sys
 
+# standard data, and each VPD page
+INQUIRIES = ["120000002400"] + [f"1201{page}00ff00" for page in ("00", "80", "83", "b0", "b2")]
 HEAD = ["lun 0 blocks 65536", "port 0 a"] + [f"map {i} 0 0 0" for i in range(16)]
 
 
-def command(number, code, count, data=None):
-    cdb = f"{code:02x}00{number * 256:08x}00{count:04x}00"
-    line = f"cmd {number % 16} 0 0 {number} simple {cdb}"
-    return line if data is None else f"{line} {data}"
+WRITES = {6: 0x0A, 10: 0x2A, 12: 0xAA, 16: 0x8A}
+READS = {6: 0x08, 10: 0x28, 12: 0xA8, 16: 0x88}
+
+
+def transfer(codes, size, lba, count):
+    """The CDB of `size` bytes of a READ or WRITE of 1 to 256 blocks."""
+    code = f"{codes[size]:02x}"
+    if size == 6:
+        return f"{code}{lba:06x}{count % 256:02x}00"
+    if size == 10:
+        return f"{code}00{lba:08x}00{count:04x}00"
+    if size == 12:
+        return f"{code}00{lba:08x}{count:08x}0000"
+    return f"{code}00{lba:016x}{count:08x}0000"
+
+
+def line(tag, cdb, data=None):
+    words = f"cmd {tag % 16} 0 0 {tag} simple {cdb}"
+    return words if data is None else f"{words} {data}"
+
+
+def write(number, blocks, data, size=10):
+    return line(number, transfer(WRITES, size, number * 256, blocks), data)
+
+
+def read_back(number, blocks, size=10):
+    """A READ of what `write` wrote, with a tag of its own."""
+    return line(number + 112, transfer(READS, size, number * 256, blocks))
 
 
 def counted(blocks):
@@ -30,17 +56,21 @@ def inputs():
     random.seed(1)
     yield "noise", random.randbytes(8 << 20)
     for commands in (32, 64):
-        yield f"counted-{commands}", script([command(k, 0x2A, 256, counted(256)) for k in range(commands)])
+        yield f"counted-{commands}", script([write(k, 256, counted(256)) for k in range(commands)])
     for commands in (15, 30):
-        yield f"pairs-{commands}", script([command(k, 0x2A, 256, random_pairs(256, "")) for k in range(commands)])
+        yield f"pairs-{commands}", script([write(k, 256, random_pairs(256, "")) for k in range(commands)])
     for commands in (10, 20):
-        yield f"pieces-{commands}", script([command(k, 0x2A, 256, random_pairs(256, ".")) for k in range(commands)])
+        yield f"pieces-{commands}", script([write(k, 256, random_pairs(256, ".")) for k in range(commands)])
     for commands in (15, 30):
-        writes = [command(k, 0x2A, 256, random_pairs(256, "")) for k in range(commands)]
-        reads = [command(k, 0x28, 256).replace(f" {k} simple", f" {k + 100} simple") for k in range(commands)]
-        yield f"reads-{commands}", script(writes + reads)
+        writes = [write(k, 256, random_pairs(256, "")) for k in range(commands)]
+        yield f"reads-{commands}", script(writes + [read_back(k, 256) for k in range(commands)])
+    for commands in (15, 30):
+        sizes = [(6, 10, 12, 16)[k % 4] for k in range(commands)]
+        writes = [write(k, 256, random_pairs(256, ""), size) for k, size in enumerate(sizes)]
+        yield f"forms-{commands}", script(writes + [read_back(k, 256, size) for k, size in enumerate(sizes)])
+    yield "inquiries-64", script([line(k, INQUIRIES[k % len(INQUIRIES)]) for k in range(64)])
     for steps in (16_000, 32_000, 65_000):
-        writes = [command(k, 0x2A, 256, counted(256)) for k in range(64)]
+        writes = [write(k, 256, counted(256)) for k in range(64)]
         yield f"steps-{steps}", script(writes + [f"step 0 {k % 64 + 1} 1" for k in range(steps)])
 
 

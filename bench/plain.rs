@@ -36,9 +36,10 @@ struct Script {
 enum Kind {
     Read,
     Write,
+    Inquiry,
 }
 
-/// What a command reads or writes.
+/// What a command reads or writes; no blocks for INQUIRY.
 #[derive(Clone, Copy)]
 struct Transfer {
     kind: Kind,
@@ -160,28 +161,68 @@ fn parse_script(text: &str) -> Option<Script> {
     text.split_terminator('\n').all(add).then_some(script)
 }
 
+fn big_endian(bytes: &[u8]) -> usize {
+    bytes.iter().fold(0, |value, byte| value << 8 | *byte as usize)
+}
+
 fn decode(cdb: &[u8]) -> Result<Transfer, Refusal> {
     let kind = match cdb[0] {
-        0x28 => Kind::Read,
-        0x2a => Kind::Write,
+        0x08 | 0x28 | 0xa8 | 0x88 => Kind::Read,
+        0x0a | 0x2a | 0xaa | 0x8a => Kind::Write,
+        0x12 => Kind::Inquiry,
         _ => return Err(Refusal::Operation),
     };
-    if cdb.len() != 10 {
+    let size = match cdb[0] >> 5 {
+        0 => 6,
+        1 => 10,
+        4 => 16,
+        _ => 12,
+    };
+    if cdb.len() != size || cdb[size - 1] & 4 != 0 {
         return Err(Refusal::Field);
     }
-    let first = u32::from_be_bytes([cdb[2], cdb[3], cdb[4], cdb[5]]) as usize;
-    let count = u16::from_be_bytes([cdb[7], cdb[8]]) as usize;
-    if cdb[1] >> 5 != 0 || count > 256 || cdb[9] & 4 != 0 {
+    let (first, count) = match (kind, size) {
+        (Kind::Inquiry, _) if inquiry_data(cdb).is_none() => return Err(Refusal::Field),
+        (Kind::Inquiry, _) => (0, 0),
+        (_, 6) => (big_endian(&cdb[1..4]) & 0x1f_ffff, (cdb[4] as usize + 255) % 256 + 1),
+        (_, 10) => (big_endian(&cdb[2..6]), big_endian(&cdb[7..9])),
+        (_, 12) => (big_endian(&cdb[2..6]), big_endian(&cdb[6..10])),
+        (_, _) => (big_endian(&cdb[2..10]), big_endian(&cdb[10..14])),
+    };
+    if size > 6 && cdb[1] >> 5 != 0 || count > 256 {
         return Err(Refusal::Field);
     }
     Ok(Transfer { kind, first, count })
+}
+
+const SERIAL: &[u8] = b"CTL-LUN-00000000";
+const STANDARD: &[u8] = b"\x00\x00\x06\x12\x1f\x00\x00\x02FREEBSD CTLDISK         0001";
+const LIMITS: [u8; 44] = [
+    1, 128, 0, 0, 0, 0, 1, 0, 0, 0, 0, 0, 0, 0, 0, 0, 0, 1, 0, 0, 0, 0, 0, 64, 0, 0, 0, 0, 0, 0, 0, 0, 0, 0, 0, 0, 0, 0,
+    1, 0, 0, 0, 0, 0,
+];
+
+/// The data of an INQUIRY, or None where its page isn't there.
+fn inquiry_data(cdb: &[u8]) -> Option<Vec<u8>> {
+    let page = |rest: &[u8]| [&[0, cdb[2], 0, rest.len() as u8], rest].concat();
+    let mut data = match (cdb[1] & 1, cdb[2]) {
+        (0, 0) => STANDARD.to_vec(),
+        (1, 0) => page(&[0x00, 0x80, 0x83, 0xb0, 0xb2]),
+        (1, 0x80) => page(SERIAL),
+        (1, 0x83) => page(&[b"\x02\x01\x00\x18FREEBSD ", SERIAL].concat()),
+        (1, 0xb0) => page(&[&LIMITS[..], &[0; 16]].concat()),
+        (1, 0xb2) => page(&[0x00, 0xc4, 0x02, 0x00]),
+        _ => return None,
+    };
+    data.truncate(big_endian(&cdb[3..5]));
+    Some(data)
 }
 
 fn check(command: &Command, blocks: usize) -> Result<Transfer, Refusal> {
     let transfer = decode(&command.cdb)?;
     if transfer.kind == Kind::Write && command.data.len() < BLOCK * transfer.count {
         Err(Refusal::ShortData)
-    } else if transfer.first + transfer.count > blocks {
+    } else if transfer.first.saturating_add(transfer.count) > blocks {
         Err(Refusal::Range)
     } else {
         Ok(transfer)
@@ -204,6 +245,7 @@ impl Task {
         match transfer.kind {
             Kind::Read => self.got.extend_from_slice(bytes),
             Kind::Write => bytes.copy_from_slice(&self.command.data[BLOCK * self.done..][..BLOCK * count]),
+            Kind::Inquiry => self.got = inquiry_data(&self.command.cdb).unwrap_or_default(),
         }
         self.done += count;
         count

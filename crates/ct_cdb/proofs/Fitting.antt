@@ -1,14 +1,22 @@
 -- The columns of every row fit one another, and which of them stand by themselves.
-use Rattle.std.proofs.Common.{◌≡◌, ℕ, ◌≤◌, List, [], Result, Ok, Err, refl, arith}
+use Rattle.std.proofs.Common.{◌≡◌, ℕ, ◌≤◌, List, [], Bool, true, false, Result, Ok, Err, refl, arith}
 use Rattle.ct_cdb.specs.declared.op.Op.{Op}
-use Rattle.ct_cdb.specs.declared.op.Op.TheVariants.{Read}
+use Rattle.ct_cdb.specs.declared.op.Op.TheVariants.{TestUnitReady, Verify}
 use Rattle.ct_cdb.specs.declared.op.Cdb.{Cdb}
 use Rattle.ct_cdb.specs.declared.op.CdbFault.{CdbFault}
-use Rattle.ct_cdb.specs.Profiles.{profile_of, profile_by, operations, asked_of, room_of, Fits}
+use Rattle.ct_cdb.specs.declared.op.SerIdx.{SerIdx}
+use Rattle.ct_cdb.specs.declared.op.SerIdx.TheVariants.{Tur}
+use Rattle.ct_cdb.specs.declared.profile.Class.{Class}
+use Rattle.ct_cdb.specs.declared.profile.Class.TheVariants.{Always}
+use Rattle.ct_cdb.specs.declared.profile.Profile.{Profile}
+use Rattle.ct_cdb.specs.Built.{is_built}
+use Rattle.ct_cdb.specs.Commands.Still.{still}
+use Rattle.ct_cdb.specs.Profiles.{profile_of, profile_by, built_row, operations, asked_of, room_of, Fits}
+use Rattle.ct_cdb.specs.Profiles.{is_indexed, is_classed}
 
 -- the last clause is tried for each command that has none
 pub row_fits : (op : Op) (out : List ℕ) (blocks : ℕ) → Fits (profile_of op out blocks)
-row_fits (Read form lba count) out blocks =
+row_fits TestUnitReady out blocks =
     record {
       indexed = refl;
       classed = refl;
@@ -16,6 +24,29 @@ row_fits (Read form lba count) out blocks =
       awake = refl;
       covered = omega arith;
       buffered = λ some. omega arith;
+      modest = omega arith;
+      roomy = omega arith;
+    }
+row_fits (Verify form true lba count) out blocks =
+    record {
+      indexed = refl;
+      classed = refl;
+      barred = refl;
+      awake = refl;
+      covered = omega arith;
+      buffered = λ some. omega arith;
+      modest = omega arith;
+      roomy = omega arith;
+    }
+row_fits (Verify form false lba count) out blocks =
+    record {
+      indexed = refl;
+      classed = refl;
+      barred = refl;
+      awake = refl;
+      covered = omega arith;
+      buffered = λ some. omega arith;
+      modest = omega arith;
       roomy = omega arith;
     }
 row_fits _ out blocks =
@@ -26,11 +57,39 @@ row_fits _ out blocks =
       awake = refl;
       covered = omega arith;
       buffered = λ some. omega arith;
+      modest = omega arith;
       roomy = omega arith;
     }
 
+still_indexed : (index : SerIdx) → is_indexed index [] ≡ true
+still_indexed Tur = refl
+still_indexed _ = refl
+
+still_classed : (class : Class) → is_classed class [] ≡ true
+still_classed Always = refl
+still_classed _ = refl
+
+-- so do those of a command that moves no block
+still_fits : (index : SerIdx) (class : Class) → Fits (still index class)
+still_fits index class =
+    record {
+      indexed = still_indexed index;
+      classed = still_classed class;
+      barred = refl;
+      awake = refl;
+      covered = omega arith;
+      buffered = λ some. omega arith;
+      modest = omega arith;
+      roomy = omega arith;
+    }
+
+built_fits : (built : Bool) (profile : Profile) → Fits profile → Fits (built_row built profile)
+built_fits true profile fits = fits
+built_fits false profile fits = still_fits profile.index profile.class
+
 pub decoded_fits : (decoded : Result Cdb CdbFault) (out : List ℕ) (blocks : ℕ) → Fits (profile_by decoded out blocks)
-decoded_fits (Ok cdb) out blocks = row_fits cdb.op out blocks
+decoded_fits (Ok cdb) out blocks =
+    built_fits (is_built cdb.op) (profile_of cdb.op out blocks) (row_fits cdb.op out blocks)
 decoded_fits (Err fault) out blocks =
     record {
       indexed = refl;
@@ -39,20 +98,38 @@ decoded_fits (Err fault) out blocks =
       awake = refl;
       covered = omega arith;
       buffered = λ some. omega arith;
+      modest = omega arith;
       roomy = omega arith;
     }
 
 same_room : (op : Op) (out : List ℕ) (blocks : ℕ) → (profile_of op out blocks).data_in ≡ (profile_of op [] 0).data_in
-same_room (Read form lba count) out blocks = refl
+same_room TestUnitReady out blocks = refl
 same_room _ out blocks = refl
+
+built_room : (built : Bool) (one other : Profile) → one.data_in ≡ other.data_in
+    → (built_row built one).data_in ≡ (built_row built other).data_in
+built_room true one other same = same
+built_room false one other same = refl
 
 -- the room for the data-in depends neither on the data-out nor on the disk
 pub decoded_room : (decoded : Result Cdb CdbFault) (out : List ℕ) (blocks : ℕ)
     → (profile_by decoded out blocks).data_in ≡ room_of decoded
-decoded_room (Ok cdb) out blocks = same_room cdb.op out blocks
+decoded_room (Ok cdb) out blocks =
+    built_room (is_built cdb.op) (profile_of cdb.op out blocks) (profile_of cdb.op [] 0) (same_room cdb.op out blocks)
 decoded_room (Err fault) out blocks = refl
 
+row_operations : (op : Op) (out : List ℕ) (blocks : ℕ) → operations (profile_of op out blocks) ≤ asked_of op
+row_operations TestUnitReady out blocks = omega arith
+row_operations _ out blocks = omega arith
+
+built_operations : (built : Bool) (profile : Profile) (asked : ℕ) → operations profile ≤ asked
+    → operations (built_row built profile) ≤ asked
+built_operations true profile asked few = few
+built_operations false profile asked few = omega arith
+
 -- a command makes no more block operations than it asks for
-pub few_operations : (op : Op) (out : List ℕ) (blocks : ℕ) → operations (profile_of op out blocks) ≤ asked_of op
-few_operations (Read form lba count) out blocks = omega arith
-few_operations _ out blocks = omega arith
+pub few_operations : (cdb : Cdb) (out : List ℕ) (blocks : ℕ)
+    → operations (profile_by (Ok cdb) out blocks) ≤ asked_of cdb.op
+few_operations cdb out blocks =
+    built_operations (is_built cdb.op) (profile_of cdb.op out blocks) (asked_of cdb.op)
+    (row_operations cdb.op out blocks)

@@ -2,3 +2,4 @@ pub mod Rows
 pub mod ReadBack
 pub mod Fitting
 pub mod Numbers
+pub mod Written

@@ -1,9 +1,11 @@
 pub mod Few
+pub mod Choices
 pub mod Fields
 pub mod Rows
 pub mod Forms
 pub mod Table
 pub mod Encoding
 pub mod Ranges
+pub mod Built
 pub mod Commands
 pub mod Profiles

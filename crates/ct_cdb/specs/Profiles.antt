@@ -4,7 +4,7 @@ use Rattle.std.specs.Prelude.{nat_lt, Result, Ok, Err, if◌then◌else◌}
 use Rattle.std.specs.List.{list_all, list_any}
 use Rattle.ct_word.specs.declared.limit.TheConstants.{BLOCK_SIZE}
 use Rattle.ct_cdb.specs.declared.op.Op.{Op}
-use Rattle.ct_cdb.specs.declared.op.Op.TheVariants.{Read, Write}
+use Rattle.ct_cdb.specs.declared.op.Op.TheVariants as op
 use Rattle.ct_cdb.specs.declared.op.Cdb.{Cdb}
 use Rattle.ct_cdb.specs.declared.op.CdbFault.{CdbFault}
 use Rattle.ct_cdb.specs.declared.op.SerIdx.{SerIdx}
@@ -15,31 +15,50 @@ use Rattle.ct_cdb.specs.declared.profile.Class.TheVariants.{Always, Reading, Wri
 use Rattle.ct_cdb.specs.declared.profile.Phase.{Phase}
 use Rattle.ct_cdb.specs.declared.profile.Phase.TheVariants as phase
 use Rattle.ct_cdb.specs.Ranges.{total, is_inside}
-use Rattle.ct_cdb.specs.Commands.Blocks.{read, write}
+use Rattle.ct_cdb.specs.Built.{is_built}
+use Rattle.ct_cdb.specs.Commands.Still.{still}
+use Rattle.ct_cdb.specs.Commands.Blocks.{read, write, write_and_verify, verify, compare_and_write, write_same, unmap}
+use Rattle.ct_cdb.specs.Commands.Blocks.{synchronize_cache}
+use Rattle.ct_cdb.specs.Commands.Inquiries.{test_unit_ready, request_sense, inquiry, report_luns}
+use Rattle.ct_cdb.specs.Commands.Inquiries.{read_capacity_10, read_capacity_16}
+use Rattle.ct_cdb.specs.Commands.Modes.{start_stop_unit, mode_select, mode_sense}
+use Rattle.ct_cdb.specs.Commands.Reservations.{persistent_reserve_in, persistent_reserve_out}
 
 -- the row of a command that came with this data-out, on a disk of so many blocks
 abbrev pub profile_of : Op → List ℕ → ℕ → Profile
-profile_of (Read form lba count) out blocks = read lba count
-profile_of (Write form lba count) out blocks = write lba count
+profile_of op.TestUnitReady out blocks = test_unit_ready
+profile_of (op.RequestSense descriptor allocation) out blocks = request_sense descriptor allocation
+profile_of (op.Inquiry page allocation) out blocks = inquiry page allocation
+profile_of (op.ReportLuns select allocation) out blocks = report_luns select allocation
+profile_of op.ReadCapacity10 out blocks = read_capacity_10
+profile_of (op.ReadCapacity16 allocation) out blocks = read_capacity_16 allocation
+profile_of (op.Read form lba count) out blocks = read lba count
+profile_of (op.Write form lba count) out blocks = write lba count
+profile_of (op.WriteAndVerify form lba count) out blocks = write_and_verify lba count
+profile_of (op.Verify form compare lba count) out blocks = verify compare lba count
+profile_of (op.CompareAndWrite lba count) out blocks = compare_and_write lba count
+profile_of (op.WriteSame form unmap lba count) out blocks = write_same lba count
+profile_of (op.Unmap list) out blocks = unmap list
+profile_of (op.SynchronizeCache form lba count) out blocks = synchronize_cache lba count
+profile_of (op.StartStopUnit start) out blocks = start_stop_unit
+profile_of (op.ModeSelect form list) out blocks = mode_select list
+profile_of (op.ModeSense form no_descriptor control page allocation) out blocks =
+    mode_sense form no_descriptor page allocation
+profile_of (op.PersistentReserveIn action allocation) out blocks = persistent_reserve_in action allocation
+profile_of (op.PersistentReserveOut action list) out blocks = persistent_reserve_out list
 
 -- the row of bytes that are no CDB
 abbrev pub undecoded : Profile
-undecoded = record {
-  index = Inq;
-  class = Always;
-  reports_attention = false;
-  needs_started = false;
-  is_write = false;
-  data_out = 0;
-  data_in = 0;
-  need = 0;
-  ranges = [];
-  phases = [];
-}
+undecoded = record (still Inq Always) { reports_attention = false }
+
+-- the row of a command, of which index and class alone stand as long as it isn't built
+abbrev pub built_row : Bool → Profile → Profile
+built_row true profile = profile
+built_row false profile = still profile.index profile.class
 
 -- the row of bytes, by what they decode to
 abbrev pub profile_by : Result Cdb CdbFault → List ℕ → ℕ → Profile
-profile_by (Ok cdb) out blocks = profile_of cdb.op out blocks
+profile_by (Ok cdb) out blocks = built_row (is_built cdb.op) (profile_of cdb.op out blocks)
 profile_by (Err fault) out blocks = undecoded
 
 -- the block operations of all phases
@@ -150,5 +169,7 @@ pub record Fits (profile : Profile) : Type 0 where
   pub covered : BLOCK_SIZE * most_named (total profile.ranges) profile.phases ≤ profile.data_out
   -- what moves blocks needs a block of the pool
   pub buffered : 0 < operations profile → 0 < profile.need
+  -- two blocks of the pool for each that is moved, and two more, are enough
+  pub modest : profile.need ≤ 2 * total profile.ranges + 2
   -- there is room for all blocks that are given
   pub roomy : BLOCK_SIZE * (giving profile.phases * total profile.ranges) ≤ profile.data_in

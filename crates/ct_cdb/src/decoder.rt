@@ -1,6 +1,9 @@
 //! From bytes to a CDB. The code byte names a row of the table, which is one function; rows stand by family.
 
 mod blocks;
+mod inquiries;
+mod modes;
+mod reservations;
 
 ghost use Rattle.std.specs.Prelude.{◌≡◌, ◌<◌, ◌++◌, List, true, false, IfSome, IfErr, OnOk};
 ghost use Rattle.ct_cdb.specs.declared.op.Cdb.{Cdb as AnyCdb};
@@ -31,8 +34,38 @@ fn row(bytes: &[u8]) -> Option<Row>
     ensures some { IfSome result (λ row. 0 < row.size) }
 {
     match byte_at(bytes, 0) {
+        0x00 => Some(inquiries::test_unit_ready()),
+        0x03 => Some(inquiries::request_sense(bytes)),
+        0x08 => Some(blocks::read_6(bytes)),
+        0x0a => Some(blocks::write_6(bytes)),
+        0x12 => Some(inquiries::inquiry(bytes)),
+        0x15 => Some(modes::mode_select_6(bytes)),
+        0x1a => Some(modes::mode_sense_6(bytes)),
+        0x1b => Some(modes::start_stop_unit(bytes)),
+        0x25 => Some(inquiries::read_capacity_10()),
         0x28 => Some(blocks::read_10(bytes)),
         0x2a => Some(blocks::write_10(bytes)),
+        0x2e => Some(blocks::write_and_verify_10(bytes)),
+        0x2f => Some(blocks::verify_10(bytes)),
+        0x35 => Some(blocks::synchronize_cache_10(bytes)),
+        0x41 => Some(blocks::write_same_10(bytes)),
+        0x42 => Some(blocks::unmap(bytes)),
+        0x55 => Some(modes::mode_select_10(bytes)),
+        0x5a => Some(modes::mode_sense_10(bytes)),
+        0x5e => Some(reservations::persistent_reserve_in(bytes)),
+        0x5f => Some(reservations::persistent_reserve_out(bytes)),
+        0x88 => Some(blocks::read_16(bytes)),
+        0x89 => Some(blocks::compare_and_write(bytes)),
+        0x8a => Some(blocks::write_16(bytes)),
+        0x8e => Some(blocks::write_and_verify_16(bytes)),
+        0x8f => Some(blocks::verify_16(bytes)),
+        0x91 => Some(blocks::synchronize_cache_16(bytes)),
+        0x93 => Some(blocks::write_same_16(bytes)),
+        0x9e => Some(inquiries::read_capacity_16(bytes)),
+        0xa0 => Some(inquiries::report_luns(bytes)),
+        0xa8 => Some(blocks::read_12(bytes)),
+        0xaa => Some(blocks::write_12(bytes)),
+        0xaf => Some(blocks::verify_12(bytes)),
         _ => None,
     }
 }

@@ -1,7 +1,9 @@
 //! Commands, each one row of two tables: of the forms of its bytes, read and written, and of what it means.
 #![tactic(auto)]
 
+mod built;
 mod cdb_bytes;
+mod choices;
 mod decoder;
 mod encoder;
 mod few;
@@ -12,6 +14,9 @@ mod ranges;
 mod row;
 
 pub use cdb_bytes::CdbBytes;
+pub use choices::{
+    InquiryPage, LunSelection, ModePage, PageControl, ReservationType, ReserveIn, ReserveOut,
+};
 pub use decoder::decode;
 pub use encoder::encode;
 pub use few::Few;

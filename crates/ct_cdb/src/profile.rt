@@ -1,9 +1,13 @@
 //! What a command means, one row for each: all that decides how it is treated, but its bytes.
 
 mod blocks;
+mod inquiries;
+mod modes;
+mod reservations;
 
 ghost use Rattle.std.specs.Prelude.{◌≡◌};
 ghost use Rattle.std.specs.List.{list_any};
+ghost use Rattle.ct_cdb.specs.Commands.Still.{still};
 ghost use Rattle.ct_cdb.specs.Profiles.{reads, writes, profile_of, profile_by, undecoded, operations, index_of};
 ghost use Rattle.ct_cdb.specs.Profiles.{asked_of, is_performed};
 
@@ -76,7 +80,7 @@ pub struct Profile {
     /// The most bytes of data-in that it returns.
     pub data_in: u64,
     /// The blocks of the pool that it needs while it moves.
-    pub need: u32,
+    pub need: u64,
     pub ranges: Ranges,
     pub phases: Few<Phase>,
 }
@@ -88,17 +92,57 @@ impl Profile {
     {
         let (_out, _blocks) = (out, blocks);
         match *op {
+            Op::TestUnitReady => inquiries::test_unit_ready(),
+            Op::RequestSense {
+                descriptor,
+                allocation,
+            } => inquiries::request_sense(descriptor, allocation),
+            Op::Inquiry { page, allocation } => inquiries::inquiry(page, allocation),
+            Op::ReportLuns { select, allocation } => inquiries::report_luns(select, allocation),
+            Op::ReadCapacity10 => inquiries::read_capacity_10(),
+            Op::ReadCapacity16 { allocation } => inquiries::read_capacity_16(allocation),
             Op::Read { lba, count, .. } => blocks::read(lba, count),
             Op::Write { lba, count, .. } => blocks::write(lba, count),
+            Op::WriteAndVerify { lba, count, .. } => blocks::write_and_verify(lba, count),
+            Op::Verify {
+                compare,
+                lba,
+                count,
+                ..
+            } => blocks::verify(compare, lba, count),
+            Op::CompareAndWrite { lba, count } => blocks::compare_and_write(lba, count),
+            Op::WriteSame { lba, count, .. } => blocks::write_same(lba, count),
+            Op::Unmap { list } => blocks::unmap(list),
+            Op::SynchronizeCache { lba, count, .. } => blocks::synchronize_cache(lba, count),
+            Op::StartStopUnit { .. } => modes::start_stop_unit(),
+            Op::ModeSelect { list, .. } => modes::mode_select(list),
+            Op::ModeSense {
+                form,
+                no_descriptor,
+                page,
+                allocation,
+                ..
+            } => modes::mode_sense(form, no_descriptor, page, allocation),
+            Op::PersistentReserveIn { action, allocation } => {
+                reservations::persistent_reserve_in(action, allocation)
+            }
+            Op::PersistentReserveOut { list, .. } => reservations::persistent_reserve_out(list),
         }
     }
 
-    /// The same for bytes, by what they decode to.
+    /// The same for bytes, by what they decode to. Of a command that isn't built index and class alone stand.
     pub fn by(decoded: &Result<Cdb, CdbFault>, out: &[u8], blocks: u32) -> Profile
         ensures { result ≡ profile_by decoded.now out.now blocks }
     {
         match decoded {
-            Ok(cdb) => Profile::of(&cdb.op, out, blocks),
+            Ok(cdb) => {
+                let profile = Profile::of(&cdb.op, out, blocks);
+                if cdb.op.is_built() {
+                    profile
+                } else {
+                    still(profile.index, profile.class)
+                }
+            }
             Err(_) => undecoded(),
         }
     }
@@ -140,14 +184,14 @@ impl Profile {
     }
 }
 
-// The row of bytes that are no CDB.
-fn undecoded() -> Profile
-    ensures { result ≡ undecoded }
+// The row of a command that moves no block.
+fn still(index: SerIdx, class: Class) -> Profile
+    ensures { result ≡ still index class }
 {
     Profile {
-        index: SerIdx::Inq,
-        class: Class::Always,
-        reports_attention: false,
+        index,
+        class,
+        reports_attention: true,
         needs_started: false,
         is_write: false,
         data_out: 0,
@@ -155,6 +199,16 @@ fn undecoded() -> Profile
         need: 0,
         ranges: Ranges::none(),
         phases: Few::none(),
+    }
+}
+
+// The row of bytes that are no CDB.
+fn undecoded() -> Profile
+    ensures { result ≡ undecoded }
+{
+    Profile {
+        reports_attention: false,
+        ..still(SerIdx::Inq, Class::Always)
     }
 }
 

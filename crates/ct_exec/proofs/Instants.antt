@@ -1,5 +1,5 @@
 -- What a command does at once that nothing refuses is what its plan does.
-use Rattle.std.proofs.Common.{◌≡◌, ℕ, Bool, true, false, not, ◌&&◌, nat_lt, cond, if◌then◌else◌, List, [], length}
+use Rattle.std.proofs.Common.{◌≡◌, ℕ, Bool, true, false, not, ◌&&◌, nat_lt, cond, if◌then◌else◌, List, [], ◌∷◌, length}
 use Rattle.std.proofs.Common.{Option, None, Some, Result, Ok, Err, refl, sym, ◌∙◌, ap, subst}
 use Rattle.std.specs.List.{list_all}
 use Rattle.std.proofs.lemmas.Bool.{and_parts}
@@ -7,6 +7,7 @@ use Rattle.ct_word.specs.Nexuses.{no_nexuses}
 use Rattle.ct_cdb.specs.declared.op.Cdb.{Cdb}
 use Rattle.ct_cdb.specs.declared.op.CdbFault.{CdbFault}
 use Rattle.ct_cdb.specs.declared.profile.Profile.{Profile}
+use Rattle.ct_cdb.specs.Built.{is_built}
 use Rattle.ct_cdb.specs.Forms.{cdb_of}
 use Rattle.ct_cdb.specs.Ranges.{is_inside}
 use Rattle.ct_cdb.specs.Profiles.{is_performed}
@@ -19,28 +20,33 @@ use Rattle.ct_plan.specs.Effects.{effect}
 use Rattle.ct_plan.proofs.Cuts.{whole_phases}
 use Rattle.ct_book.specs.declared.work.Command.{Command}
 use Rattle.ct_book.specs.Works.{profile_in}
+use Rattle.ct_sense.specs.declared.code.TheConstants.{INVALID_COMMAND_OPERATION_CODE}
 use Rattle.ct_exec.specs.Controls.{ControlState, Disk}
+use Rattle.ct_exec.specs.Data.{data_of_unit}
 use Rattle.ct_exec.specs.Executions.{Execution, good, check_condition, refusal_of, refusal_by, reply_moved}
 use Rattle.ct_exec.specs.Executions.{execute, executed, plan_in}
+use Rattle.ct_exec.proofs.UnitData.{moves_or_tells}
 
 -- nothing refuses what is performed
 unrefused_performed : (control : ControlState) (blocks out : ℕ) (decoded : Result Cdb CdbFault) (profile : Profile)
     → refusal_by control blocks out decoded profile ≡ None → is_performed out blocks profile ≡ true
 unrefused_performed control blocks out (Err fault) profile h = absurd (cc)
 unrefused_performed control blocks out (Ok cdb) profile h =
-    go (nat_lt out profile.data_out) (list_all (is_inside blocks) profile.ranges) h
+    go (is_built cdb.op) (nat_lt out profile.data_out) (list_all (is_inside blocks) profile.ranges) h
   where
-    go : (short inside : Bool)
-        → (if short then Some (check_condition control PARAMETER_LIST_LENGTH_ERROR None) else if not inside then Some
+    go : (built short inside : Bool)
+        → (if not built then Some (check_condition control INVALID_COMMAND_OPERATION_CODE None) else if short then Some
+        (check_condition control PARAMETER_LIST_LENGTH_ERROR None) else if not inside then Some
         (check_condition control LBA_OUT_OF_RANGE None) else None) ≡ None
         → (not short && inside) ≡ true
-    go true inside e = absurd (cc)
-    go false true e = refl
-    go false false e = absurd (cc)
+    go false short inside e = absurd (cc)
+    go true true inside e = absurd (cc)
+    go true false true e = refl
+    go true false false e = absurd (cc)
 
--- a command before its first operation
-abbrev start : List (List ℕ) → Cells
-start blocks = record { blocks = blocks; got = [] }
+-- a command before its first operation, with the data that it returns of the unit
+abbrev pub begun : Disk → Command → Cells
+begun disk c = record { blocks = disk.blocks; got = data_of_unit disk.control (length disk.blocks) c }
 
 -- the disk and the reply of operations that came so far
 abbrev pub operated_by : Disk → Progress → Execution
@@ -51,7 +57,7 @@ operated_by disk progress = record {
 }
 
 pub whole_execution : (disk : Disk) (c : Command) → refusal_of disk.control (length disk.blocks) c ≡ None
-    → execute disk c ≡ operated_by disk (performed c.out (plan_in (length disk.blocks) c) (start disk.blocks))
+    → execute disk c ≡ operated_by disk (performed c.out (plan_in (length disk.blocks) c) (begun disk c))
 unfolding execute refusal_of plan_in plan_of
 whole_execution disk c unrefused =
     let profile : Profile = profile_in (length disk.blocks) c in
@@ -60,7 +66,7 @@ whole_execution disk c unrefused =
     let inside =
     and_parts (not (nat_lt (length c.out) profile.data_out))
     (list_all (is_inside (length disk.blocks)) profile.ranges) yes in
-    let ends = whole_phases c.out profile.ranges profile.phases (start disk.blocks) inside.1 in
+    let ends = whole_phases c.out profile.ranges profile.phases (begun disk c) inside.1 in
     let planned_so : planned profile.phases profile.ranges
     ≡ cond (is_performed (length c.out) (length disk.blocks) profile) (planned profile.phases profile.ranges) [] =
     ap (λ (b : Bool). cond b (planned profile.phases profile.ranges) []) (sym yes) in
@@ -69,22 +75,35 @@ whole_execution disk c unrefused =
       disk = record {
         control = disk.control;
         blocks =
-            (effect c.out profile.ranges profile.phases (start disk.blocks)).cells.blocks;
+            (effect c.out profile.ranges profile.phases (begun disk c)).cells.blocks;
       };
-      reply = reply_moved disk.control d (effect c.out profile.ranges profile.phases (start disk.blocks)).cells.got;
+      reply = reply_moved disk.control d (effect c.out profile.ranges profile.phases (begun disk c)).cells.got;
       cleared = no_nexuses;
     }) (sym ends.difference)
     ∙ ap (λ (cells : Cells). record {
       disk = record { control = disk.control; blocks = cells.blocks };
       reply = reply_moved disk.control
-          (performed c.out (planned profile.phases profile.ranges) (start disk.blocks)).difference cells.got;
+          (performed c.out (planned profile.phases profile.ranges) (begun disk c)).difference cells.got;
       cleared = no_nexuses;
     }) (sym ends.cells)
-    ∙ ap (λ (operations : List BlockOp). operated_by disk (performed c.out operations (start disk.blocks))) planned_so
+    ∙ ap (λ (operations : List BlockOp). operated_by disk (performed c.out operations (begun disk c))) planned_so
 
--- a command that nothing refuses and that has no block operation leaves the disk, and returns no data
-pub done_at_once : (control : ControlState) (command : Command) (count : ℕ) (blocks : List (List ℕ)) → refusal_of control count command ≡ None → plan_in count command ≡ [] → length blocks ≡ count
-    → execute (record { control = control; blocks = blocks }) command ≡ record { disk = record { control = control; blocks = blocks }; reply = good []; cleared = no_nexuses }
+-- a command that moves blocks returns no data but theirs
+pub begun_moving : (disk : Disk) (c : Command) (operation : BlockOp) (others : List BlockOp)
+    → plan_in (length disk.blocks) c ≡ operation ∷ others → begun disk c ≡ record { blocks = disk.blocks; got = [] }
+begun_moving disk c operation others planned_is =
+    ap (λ (told : List ℕ). record { blocks = disk.blocks; got = told })
+    (moves_or_tells disk.control (length disk.blocks) c operation others planned_is)
+
+-- a command that nothing refuses and that has no block operation leaves the disk, and returns the data of the unit
+pub done_at_once : (control : ControlState) (command : Command) (count : ℕ) (blocks : List (List ℕ))
+    → refusal_of control count command ≡ None → plan_in count command ≡ [] → length blocks ≡ count
+    → execute (record { control = control; blocks = blocks }) command
+    ≡ record {
+      disk = record { control = control; blocks = blocks };
+      reply = good (data_of_unit control count command);
+      cleared = no_nexuses;
+    }
 done_at_once control command count blocks unrefused unplanned size =
     let disk : Disk = record { control = control; blocks = blocks } in
     let refused : refusal_of control (length blocks) command ≡ None =
@@ -92,5 +111,10 @@ done_at_once control command count blocks unrefused unplanned size =
     let planned_is : plan_in (length blocks) command ≡ [] =
     subst (λ (n : ℕ). plan_in n command ≡ []) (sym size) unplanned in
     whole_execution disk command refused
-    ∙ ap (λ (operations : List BlockOp). operated_by disk (performed command.out operations (start blocks)))
+    ∙ ap (λ (operations : List BlockOp). operated_by disk (performed command.out operations (begun disk command)))
     planned_is
+    ∙ ap (λ (n : ℕ). record {
+      disk = record { control = control; blocks = blocks };
+      reply = good (data_of_unit control n command);
+      cleared = no_nexuses;
+    }) size

@@ -1,1 +1,2 @@
+pub mod UnitData
 pub mod Instants

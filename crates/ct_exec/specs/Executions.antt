@@ -1,11 +1,13 @@
 -- The whole execution of one command, at once (SBC-3, clause 5; SPC-4, 4.5).
-use Rattle.std.specs.Prelude.{ℕ, List, [], length, Bool, false, not, nat_lt, if◌then◌else◌, Option, None, Some, Result, Ok, Err}
+use Rattle.std.specs.Prelude.{ℕ, List, [], length, Bool, false, not, nat_lt, if◌then◌else◌, Option, None, Some, Result}
+use Rattle.std.specs.Prelude.{Ok, Err}
 use Rattle.std.specs.List.{list_all}
 use Rattle.ct_word.specs.Nexuses.{no_nexuses}
 use Rattle.ct_cdb.specs.declared.op.Cdb.{Cdb}
 use Rattle.ct_cdb.specs.declared.op.CdbFault.{CdbFault}
 use Rattle.ct_cdb.specs.declared.op.CdbFault.TheVariants.{Empty, BadOperation, BadLength, BadField}
 use Rattle.ct_cdb.specs.declared.profile.Profile.{Profile}
+use Rattle.ct_cdb.specs.Built.{is_built}
 use Rattle.ct_cdb.specs.Forms.{cdb_of}
 use Rattle.ct_cdb.specs.Ranges.{is_inside}
 use Rattle.ct_sense.specs.declared.reply.Reply.{Reply}
@@ -22,6 +24,7 @@ use Rattle.ct_plan.specs.Effects.{effect}
 use Rattle.ct_book.specs.declared.work.Command.{Command}
 use Rattle.ct_book.specs.Works.{profile_in}
 use Rattle.ct_exec.specs.Controls.{ControlState, Disk, has_descriptors}
+use Rattle.ct_exec.specs.Data.{data_of_unit}
 
 -- GOOD with these data
 abbrev pub good : List ℕ → Reply
@@ -56,10 +59,12 @@ row_refusal control blocks out profile =
     else if not (list_all (is_inside blocks) profile.ranges) then Some (check_condition control LBA_OUT_OF_RANGE None)
     else None
 
--- the first of the checks that refuses: the CDB, and then those of its row
+-- the first of the checks that refuses: the CDB, whether the command is built, and then those of its row
 abbrev pub refusal_by : ControlState → ℕ → ℕ → Result Cdb CdbFault → Profile → Option Reply
 refusal_by control blocks out (Err fault) profile = Some (undecoded control fault)
-refusal_by control blocks out (Ok cdb) profile = row_refusal control blocks out profile
+refusal_by control blocks out (Ok cdb) profile =
+    if not (is_built cdb.op) then Some (check_condition control INVALID_COMMAND_OPERATION_CODE None)
+    else row_refusal control blocks out profile
 
 -- the reply that refuses a command when it begins, on a disk of so many blocks, if there is one
 unfoldable pub refusal_of : ControlState → ℕ → Command → Option Reply
@@ -77,11 +82,14 @@ pub record Execution : Type 0 where
   pub reply : Reply
   pub cleared : List Bool
 
--- what a command does that nothing refuses: what its phases do at once
+-- what a command does that nothing refuses: what its phases do at once; it returns the data of the unit, or those of
+-- its blocks
 abbrev pub effect_of : Disk → Command → Execution
 effect_of disk command =
-    let profile = profile_in (length disk.blocks) command in
-    let done = effect command.out profile.ranges profile.phases (record { blocks = disk.blocks; got = [] }) in
+    let blocks = length disk.blocks in
+    let profile = profile_in blocks command in
+    let told = data_of_unit disk.control blocks command in
+    let done = effect command.out profile.ranges profile.phases (record { blocks = disk.blocks; got = told }) in
     record {
       disk = record disk { blocks = done.cells.blocks };
       reply = reply_moved disk.control done.difference done.cells.got;

@@ -3,6 +3,7 @@ ghost use Rattle.ct_book.specs.Works.{room_for};
 ghost use Rattle.ct_exec.specs.Executions.{refusal_of, plan_in, execute};
 
 use crate::control::Control;
+use crate::data::push_data;
 use crate::ended::Instant;
 use crate::refusal::moved_reply;
 use ct_book::Command;
@@ -23,6 +24,8 @@ pub fn instant(c: &mut Control, command: &Command, body: Reserve<u8>, blocks: u3
           cleared = result.cleared;
         } }
 {
+    let mut body = body;
+    push_data(c, command, blocks, &mut body);
     Instant {
         reply: moved_reply(body),
         cleared: NexusSet::open(),

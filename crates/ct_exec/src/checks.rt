@@ -44,10 +44,15 @@ pub fn check(c: &mut Control, command: &Command, blocks: u32) -> Option<Refusal>
     ensures refused { IfSome result (λ _. c.new ≡ refused_control c.old command.now) }
     ensures unchanged { IfNone result (c.new ≡ c.old) }
 {
-    if let Err(fault) = command.cdb.decoded() {
-        return Some(undecoded(c, *fault));
+    match command.cdb.decoded() {
+        Err(fault) => Some(undecoded(c, *fault)),
+        Ok(cdb) => {
+            if !cdb.op.is_built() {
+                return Some(check_condition(c, code::INVALID_COMMAND_OPERATION_CODE, None));
+            }
+            row_refusal(c, &command.profile(blocks), command.out.len(), blocks)
+        }
     }
-    row_refusal(c, &command.profile(blocks), command.out.len(), blocks)
 }
 
 /// The plan of a command, on a disk of so many blocks, 1 to 65,536. That of one that doesn't decode is empty.

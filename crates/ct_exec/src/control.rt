@@ -27,6 +27,13 @@ impl Control {
         Ok(Control { lun })
     }
 
+    /// The number of the logical unit.
+    pub(crate) fn lun(&self) -> LunNo
+        ensures { result ≡ self.now.lun }
+    {
+        self.lun
+    }
+
     /// Whether reordering is unrestricted.
     #[tactic(auto, unfolding(crate::specs::Controls::is_unrestricted))]
     pub fn is_unrestricted(&self) -> bool

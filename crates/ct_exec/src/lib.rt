@@ -4,6 +4,7 @@
 mod at_once;
 mod checks;
 mod control;
+mod data;
 mod ended;
 mod refusal;
 #[cfg(test)]

@@ -43,10 +43,16 @@ fn refused(alloc: Global, cdb: &[u8], out: &[u8], blocks: u32) -> Result<Option<
 fn refuses(rt: HostRuntime) -> Result<(), Fail> {
     let alloc = rt.alloc();
     assert_eq!(rt; refused(alloc, b"", &[], 3)?, Some(0x20));
+    // an unknown operation code, and a command that isn't built
+    assert_eq!(rt; refused(alloc, b"\xff\0\0\0\0\0", &[], 3)?, Some(0x20));
     assert_eq!(rt;
         refused(alloc, b"\x5e\0\0\0\0\0\0\0\0\0", &[], 3)?,
         Some(0x20)
     );
+    // SYNCHRONIZE CACHE of a range that leaves the disk
+    let flush = b"\x35\0\0\0\0\x02\0\0\x02\0";
+    assert_eq!(rt; refused(alloc, flush, &[], 3)?, Some(0x21));
+    assert_eq!(rt; refused(alloc, flush, &[], 4)?, None);
     assert_eq!(rt; refused(alloc, &READ[..9], &[], 3)?, Some(0x24));
     assert_eq!(rt;
         refused(alloc, b"\x28\x20\0\0\0\0\0\0\x02\0", &[], 3)?,
@@ -116,6 +122,38 @@ fn reads_no_blocks(rt: HostRuntime) -> Result<(), Fail> {
             assert_eq!(rt; done.cleared, NexusSet::open());
         }
         None => assert!(rt; false),
+    }
+    Ok(())
+}
+
+#[test]
+fn tells_of_the_unit(rt: HostRuntime) -> Result<(), Fail> {
+    let alloc = rt.alloc();
+    let cases: [(&[u8], &[u8]); 7] = [
+        (b"\0\0\0\0\0\0", b""),
+        (b"\x35\0\0\0\0\0\0\0\0\0", b""),
+        (b"\x03\x01\0\0\x12\0", b"\x72\0\0\0\0\0\0\0"),
+        (b"\x12\0\0\0\x04\0", b"\0\0\x06\x12"),
+        (
+            b"\xa0\0\0\0\0\0\0\0\0\xff\0\0",
+            b"\0\0\0\x08\0\0\0\0\0\0\0\0\0\0\0\0",
+        ),
+        (b"\x25\0\0\0\0\0\0\0\0\0", b"\0\0\0\x02\0\0\x02\0"),
+        (
+            b"\x9e\x10\0\0\0\0\0\0\0\0\0\0\0\x09\0\0",
+            b"\0\0\0\0\0\0\0\x02\0",
+        ),
+    ];
+    for (cdb, data) in cases {
+        let cmd = command(alloc, cdb, &[])?;
+        let body = Reserve::open(alloc, room_for(cmd.command()))?;
+        match at_once(alloc, cmd.command(), body)? {
+            Some(done) => {
+                assert_eq!(rt; done.reply.status, Status::Good);
+                assert_eq!(rt; done.reply.body.as_slice(), data, "at {cdb:?}");
+            }
+            None => assert!(rt; false, "at {cdb:?}"),
+        }
     }
     Ok(())
 }

@@ -39,13 +39,6 @@ impl FaultyRam {
     {
         self.ram.block(lba)
     }
-
-    /// All blocks, in order.
-    pub fn blocks(&self) -> &[[u8; 512]]
-        ensures { result.now ≡ self.now.blocks }
-    {
-        self.ram.blocks()
-    }
 }
 
 impl Backend for FaultyRam {

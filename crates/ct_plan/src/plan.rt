@@ -64,7 +64,7 @@ impl Plan {
             phases: profile.phases,
             ranges: profile.ranges,
             count,
-            need: profile.need,
+            need: profile.need as u32,
         }
     }
 

@@ -2,7 +2,7 @@
 use Rattle.std.proofs.Common.{◌≡◌, ℕ, ◌+◌, ◌-◌, take, Bool, true, false, not, nat_eq, List, [], ◌∷◌, ◌==◌, length, drop}
 use Rattle.std.proofs.Common.{refl, sym, ap, ◌∙◌, arith, Decides, bytes_eq, subst, ◌++◌, ◌<◌, append_assoc, get_or}
 use Rattle.std.specs.List.{between}
-use Rattle.std.proofs.lemmas.List.{take_all, take-append-le, length-append}
+use Rattle.std.proofs.lemmas.List.{take_all, take-append-le, length-append, drop_more, drop-drop}
 use Rattle.std.proofs.lemmas.Slice.{first_rest}
 use Rattle.std.proofs.lemmas.List.{take_rest}
 use native.Mathlib.Numerals.{one-add}
@@ -100,18 +100,25 @@ without_last_dot old text new bytes size some is sized cut =
     ∙ take-append-le (length front) front (46 ∷ []) (omega arith)
     ∙ take_all (length front) front (omega arith)
 
--- the first run of blocks in print, and the blocks behind it
-pub first_blocks_text : (old new : List ℕ) (blocks : List (List ℕ)) (first n : ℕ) (bytes other : List ℕ)
-    → 0 < length blocks → bytes ≡ get_or blocks 0 other → n ≡ ahead bytes_eq bytes (between 1 (length blocks) blocks)
-    → new ≡ old ++ block_run_text first (run_of bytes (1 + n))
-    → new ++ block_runs_text (first + (1 + n)) (runs_of bytes_eq (drop (1 + n) blocks)) ≡ old ++ block_runs_text first
-    (runs_of bytes_eq blocks)
-first_blocks_text old new blocks first n bytes other some is count text =
-    let others = between 1 (length blocks) blocks in
-    let opened : blocks ≡ bytes ∷ others = first_rest blocks other some ∙ ap (λ b. b ∷ others) (sym is) in
-    let runs : runs_of bytes_eq blocks ≡ run_of bytes (1 + n) ∷ runs_of bytes_eq (drop n others) =
-    ap (runs_of bytes_eq) opened ∙ runs_first bytes_eq bytes_eq-Decides bytes others
-    ∙ ap (λ k. run_of bytes k ∷ runs_of bytes_eq (drop (ahead bytes_eq bytes others) others)) (omega arith)
-    ∙ ap (λ k. run_of bytes (1 + n) ∷ runs_of bytes_eq (drop k others)) (sym count) in
-    let behind : drop (1 + n) blocks ≡ drop n others = ap (drop (1 + n)) opened ∙ rw (one-add n) refl in
-    rw (text, append_assoc, behind) (ap (λ rs. old ++ block_runs_text first rs) (sym runs))
+-- the first run of the blocks from a place on in print, and the blocks behind it
+pub first_blocks_text : (old new : List ℕ) (blocks : List (List ℕ)) (first end : ℕ) (bytes : List ℕ)
+    → first < length blocks → bytes ≡ get_or blocks first []
+    → end ≡ first + 1 + ahead bytes_eq (get_or blocks first []) (drop (first + 1) blocks)
+    → new ≡ old ++ block_run_text first (run_of bytes (end - first))
+    → new ++ block_runs_text end (runs_of bytes_eq (drop end blocks)) ≡ old ++ block_runs_text first
+    (runs_of bytes_eq (drop first blocks))
+first_blocks_text old new blocks first end bytes within is count text =
+    let item = get_or blocks first [] in
+    let others = drop (first + 1) blocks in
+    let n = ahead bytes_eq item others in
+    let size : end - first ≡ n + 1 = omega (arith, count) in
+    let all : first + (end - first) ≡ end = omega (arith, count) in
+    let runs : runs_of bytes_eq (drop first blocks) ≡ run_of bytes (end - first) ∷ runs_of bytes_eq (drop end blocks) =
+    ap (runs_of bytes_eq) (drop_more blocks first [] within) ∙ runs_first bytes_eq bytes_eq-Decides item others
+    ∙ ap (λ rest. run_of item (n + 1) ∷ runs_of bytes_eq rest) (drop-drop n (first + 1) blocks)
+    ∙ ap (λ k. run_of item (n + 1) ∷ runs_of bytes_eq (drop k blocks)) (sym count)
+    ∙ ap (λ k. run_of item k ∷ runs_of bytes_eq (drop end blocks)) (sym size)
+    ∙ ap (λ block. run_of block (end - first) ∷ runs_of bytes_eq (drop end blocks)) (sym is) in
+    rw (text, append_assoc)
+    (ap (λ k. old ++ (block_run_text first (run_of bytes (end - first)) ++ block_runs_text k (runs_of bytes_eq
+    (drop end blocks)))) (sym all) ∙ ap (λ rs. old ++ block_runs_text first rs) (sym runs))

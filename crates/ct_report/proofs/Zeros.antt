@@ -1,12 +1,11 @@
 -- Blocks of zeros.
 use Rattle.std.proofs.Common.{◌≡◌, ℕ, zero, suc, ◌+◌, ◌<◌, ◌≤◌, ◌==◌, ◌&&◌, Bool, true, false, bit_or, List, [], ◌∷◌}
 use Rattle.std.proofs.Common.{◌++◌, length, take, drop, get_or, refl, sym, ap, ◌∙◌, arith, bytes_eq}
-use Rattle.std.specs.List.{between}
+use Rattle.std.proofs.lemmas.List.{drop_more}
 use Rattle.std.specs.Int.Bits.{or_zero_l}
 use Rattle.std.proofs.lemmas.Nat.{le_or_l}
 use Rattle.std.proofs.lemmas.List.Folds.{list_all_more}
 use Rattle.std.proofs.lemmas.Bool.Decides.{nat_tests}
-use Rattle.std.proofs.lemmas.Slice.{first_rest}
 use Rattle.std.proofs.lemmas.Slice.Eq.{bytes_eq-Decides}
 use Rattle.ct_report.specs.DiskText.{is_zero, block_runs_text}
 use Rattle.ct_report.specs.Runs.{Run, with_front, runs_of}
@@ -38,15 +37,11 @@ zeros_text first block (run ∷ runs) blank = by_test (bytes_eq run.item block) 
         rw (e, blank, blank_too) (ap (λ n. block_runs_text n runs) count)
     by_test false e = rw (e, blank) refl
 
-pub zero_block_text : (text : List ℕ) (blocks : List (List ℕ)) (first : ℕ) (bytes other : List ℕ) → 0 < length blocks
-    → bytes ≡ get_or blocks 0 other → is_zero bytes ≡ true
-    → text ++ block_runs_text (first + 1) (runs_of bytes_eq (drop 1 blocks)) ≡ text ++ block_runs_text first
-    (runs_of bytes_eq blocks)
-zero_block_text text blocks first bytes other some is blank =
-    let others = between 1 (length blocks) blocks in
-    let opened : blocks ≡ bytes ∷ others = first_rest blocks other some ∙ ap (λ b. b ∷ others) (sym is) in
-    let behind : drop 1 blocks ≡ others = ap (drop 1) opened in
+pub zero_block_text : (text : List ℕ) (blocks : List (List ℕ)) (first : ℕ) → first < length blocks
+    → is_zero (get_or blocks first []) ≡ true
+    → text ++ block_runs_text (first + 1) (runs_of bytes_eq (drop (first + 1) blocks)) ≡ text ++ block_runs_text first
+    (runs_of bytes_eq (drop first blocks))
+zero_block_text text blocks first within blank =
     ap (λ l. text ++ l)
-    (ap (λ rest. block_runs_text (first + 1) (runs_of bytes_eq rest)) behind
-    ∙ sym (zeros_text first bytes (runs_of bytes_eq others) blank)
-    ∙ sym (ap (λ all. block_runs_text first (runs_of bytes_eq all)) opened))
+    (sym (zeros_text first (get_or blocks first []) (runs_of bytes_eq (drop (first + 1) blocks)) blank)
+    ∙ sym (ap (λ all. block_runs_text first (runs_of bytes_eq all)) (drop_more blocks first [] within)))

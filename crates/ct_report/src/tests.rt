@@ -342,7 +342,10 @@ fn prints_bytes_and_blocks(rt: HostRuntime) -> Result<(), Fail> {
     let mut text = Vec::new(alloc);
     push_byte_text(&mut text, b"")?;
     push_byte_text(&mut text, b"\x01\x01\x02\n")?;
-    push_disk(&mut text, disk.blocks())?;
-    assert_eq!(rt; text.as_slice(), b"01*2.02.0adisk 0 8 05*512\n".as_slice());
+    push_disk(&mut text, &disk)?;
+    // what is behind the second block was never written
+    push_disk(&mut text, &disk_of(alloc, b"\x00\x06")?)?;
+    let lines = b"01*2.02.0adisk 0 8 05*512\ndisk 1 1 06*512\n";
+    assert_eq!(rt; text.as_slice(), lines.as_slice());
     Ok(())
 }

@@ -16,5 +16,5 @@ pub fn push_unit(text: &mut Vec<u8>, lun: LunNo, book: &Book, disk: &Ram) -> Res
     let LunNo(number) = lun;
     write!(text, "lun {number}\n").map_err(|_| NoMemory)?;
     push_journal(text, book)?;
-    push_disk(text, disk.blocks())
+    push_disk(text, disk)
 }

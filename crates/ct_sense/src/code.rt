@@ -4,6 +4,13 @@
 use crate::key;
 use crate::sense::SenseCode;
 
+/// 00/00: no additional sense information
+pub const NO_ADDITIONAL_SENSE_INFORMATION: SenseCode = SenseCode {
+    key: key::NO_SENSE,
+    asc: 0x00,
+    ascq: 0x00,
+};
+
 /// 04/02: logical unit not ready, initializing command required
 pub const INITIALIZING_COMMAND_REQUIRED: SenseCode = SenseCode {
     key: key::NOT_READY,

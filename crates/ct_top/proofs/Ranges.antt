@@ -66,7 +66,7 @@ unfolding plan_in profile_in
 pieces_asked blocks line = go line.word
   where
     by : (out : List ℕ) (r : Result Cdb CdbFault) → operations (profile_by r out blocks) ≤ cdb_asked r
-    by out (Ok cdb) = few_operations cdb.op out blocks
+    by out (Ok cdb) = few_operations cdb out blocks
     by out (Err fault) = omega arith
 
     go : (word : Word) → pieces_by blocks (command_in line.no word) ≤ word_line_asked word

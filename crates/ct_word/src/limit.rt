@@ -9,8 +9,17 @@ pub const MOST_BLOCKS: u32 = 65_536;
 /// The most blocks that one command moves.
 pub const MOST_TRANSFER: u32 = 256;
 
+/// The most blocks that COMPARE AND WRITE compares.
+pub const MOST_COMPARE: u32 = 128;
+
 /// The most ranges of blocks that one command names.
 pub const MOST_RANGES: usize = 64;
+
+/// The most numbers by which an initiator sees logical units.
+pub const MOST_LUNS: u64 = 16;
+
+/// The most registrants of a logical unit (SPC-4, PERSISTENT RESERVE OUT).
+pub const MOST_REGISTRANTS: u64 = 64;
 
 /// The most block operations of one step.
 pub const MOST_STEP: u32 = 65_536;

@@ -1,11 +1,12 @@
--- Commands that move blocks (SBC-3, clause 5).
-use Rattle.std.specs.Prelude.{ℕ, ◌*◌, List, [], ◌∷◌, true, false}
+-- Commands that move blocks, or have them moved (SBC-3, clause 5).
+use Rattle.std.specs.Prelude.{ℕ, ◌+◌, ◌*◌, List, [], ◌∷◌, Bool, true, false}
 use Rattle.ct_word.specs.declared.limit.TheConstants.{BLOCK_SIZE}
-use Rattle.ct_cdb.specs.declared.op.SerIdx.TheVariants.{Rd, Wr}
+use Rattle.ct_cdb.specs.declared.op.SerIdx.TheVariants.{Rd, Wr, Un, Sy}
 use Rattle.ct_cdb.specs.declared.ranges.LbaRange.{LbaRange}
 use Rattle.ct_cdb.specs.declared.profile.Profile.{Profile}
 use Rattle.ct_cdb.specs.declared.profile.Class.TheVariants.{Reading, Writing}
-use Rattle.ct_cdb.specs.declared.profile.Phase.TheVariants.{Get, Put}
+use Rattle.ct_cdb.specs.declared.profile.Phase.TheVariants.{Get, Look, Put, PutSecondHalf, PutSame, Zero, Compare}
+use Rattle.ct_cdb.specs.Commands.Still.{still}
 
 -- one range of blocks
 abbrev pub range : ℕ → ℕ → List LbaRange
@@ -15,32 +16,55 @@ range lba count = record { lba = lba; count = count } ∷ []
 abbrev pub data_of : ℕ → ℕ
 data_of count = BLOCK_SIZE * count
 
+-- a command that reads blocks of one range, and one that writes them
+abbrev pub reading : ℕ → ℕ → Profile
+reading lba count = record (still Rd Reading) { needs_started = true; ranges = range lba count }
+
+abbrev pub writing : ℕ → ℕ → Profile
+writing lba count = record (still Wr Writing) { needs_started = true; is_write = true; ranges = range lba count }
+
 -- READ
 abbrev pub read : ℕ → ℕ → Profile
-read lba count = record {
-  index = Rd;
-  class = Reading;
-  reports_attention = true;
-  needs_started = true;
-  is_write = false;
-  data_out = 0;
-  data_in = data_of count;
-  need = count;
-  ranges = range lba count;
-  phases = Get ∷ [];
-}
+read lba count = record (reading lba count) { data_in = data_of count; need = count; phases = Get ∷ [] }
 
 -- WRITE
 abbrev pub write : ℕ → ℕ → Profile
-write lba count = record {
-  index = Wr;
-  class = Writing;
-  reports_attention = true;
+write lba count = record (writing lba count) { data_out = data_of count; need = count; phases = Put ∷ [] }
+
+-- WRITE AND VERIFY
+abbrev pub write_and_verify : ℕ → ℕ → Profile
+write_and_verify lba count =
+    record (writing lba count) { data_out = data_of count; need = count; phases = Put ∷ Look ∷ [] }
+
+-- VERIFY, which compares, or looks alone
+abbrev pub verify : Bool → ℕ → ℕ → Profile
+verify true lba count =
+    record (reading lba count) { data_out = data_of count; need = count + 1; phases = Compare ∷ [] }
+verify false lba count = record (reading lba count) { need = 1; phases = Look ∷ [] }
+
+-- COMPARE AND WRITE, whose data-out has the blocks that are compared, and then those that are written
+abbrev pub compare_and_write : ℕ → ℕ → Profile
+compare_and_write lba count =
+    record (writing lba count) {
+      data_out = 2 * data_of count;
+      need = 2 * count + 1;
+      phases = Compare ∷ PutSecondHalf ∷ [];
+    }
+
+-- WRITE SAME, whose data-out has one block
+abbrev pub write_same : ℕ → ℕ → Profile
+write_same lba count = record (writing lba count) { data_out = data_of 1; need = 2; phases = PutSame ∷ [] }
+
+-- UNMAP, whose ranges will be those of its data-out
+abbrev pub unmap : ℕ → Profile
+unmap list = record (still Un Writing) {
   needs_started = true;
   is_write = true;
-  data_out = data_of count;
-  data_in = 0;
-  need = count;
-  ranges = range lba count;
-  phases = Put ∷ [];
+  data_out = list;
+  need = 1;
+  phases = Zero ∷ [];
 }
+
+-- SYNCHRONIZE CACHE
+abbrev pub synchronize_cache : ℕ → ℕ → Profile
+synchronize_cache lba count = record (still Sy Writing) { needs_started = true; ranges = range lba count }

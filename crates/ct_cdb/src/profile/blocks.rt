@@ -1,47 +1,35 @@
-//! Rows of the commands that move blocks (SBC-3, clause 5).
+//! Rows of the commands that move blocks, or have them moved (SBC-3, clause 5).
 
 ghost use Rattle.std.specs.Prelude.{◌≡◌};
-ghost use Rattle.ct_cdb.specs.Commands.Blocks.{read, write, data_of};
+ghost use Rattle.ct_cdb.specs.Commands.Blocks.{data_of, reading, writing, read, write, write_and_verify, verify};
+ghost use Rattle.ct_cdb.specs.Commands.Blocks.{compare_and_write, write_same, unmap, synchronize_cache};
 
-use super::{Class, Phase, Profile};
+use super::{Class, Phase, Profile, still};
 use crate::few::Few;
 use crate::op::SerIdx;
 use crate::ranges::Ranges;
 use ct_word::limit::BLOCK_SIZE;
 
-/// READ
-pub(super) fn read(lba: u64, count: u32) -> Profile
-    ensures { result ≡ read lba count }
+// A command that reads blocks of one range.
+fn reading(lba: u64, count: u32) -> Profile
+    ensures { result ≡ reading lba count }
 {
     Profile {
-        index: SerIdx::Rd,
-        class: Class::Reading,
-        reports_attention: true,
         needs_started: true,
-        is_write: false,
-        data_out: 0,
-        data_in: data_of(count),
-        need: count,
         ranges: Ranges::one(lba, count),
-        phases: Few::one(Phase::Get),
+        ..still(SerIdx::Rd, Class::Reading)
     }
 }
 
-/// WRITE
-pub(super) fn write(lba: u64, count: u32) -> Profile
-    ensures { result ≡ write lba count }
+// A command that writes blocks of one range.
+fn writing(lba: u64, count: u32) -> Profile
+    ensures { result ≡ writing lba count }
 {
     Profile {
-        index: SerIdx::Wr,
-        class: Class::Writing,
-        reports_attention: true,
         needs_started: true,
         is_write: true,
-        data_out: data_of(count),
-        data_in: 0,
-        need: count,
         ranges: Ranges::one(lba, count),
-        phases: Few::one(Phase::Put),
+        ..still(SerIdx::Wr, Class::Writing)
     }
 }
 
@@ -50,4 +38,109 @@ fn data_of(count: u32) -> u64
     ensures { result ≡ data_of count }
 {
     BLOCK_SIZE as u64 * u64::from(count)
+}
+
+/// READ
+pub(super) fn read(lba: u64, count: u32) -> Profile
+    ensures { result ≡ read lba count }
+{
+    Profile {
+        data_in: data_of(count),
+        need: u64::from(count),
+        phases: Few::one(Phase::Get),
+        ..reading(lba, count)
+    }
+}
+
+/// WRITE
+pub(super) fn write(lba: u64, count: u32) -> Profile
+    ensures { result ≡ write lba count }
+{
+    Profile {
+        data_out: data_of(count),
+        need: u64::from(count),
+        phases: Few::one(Phase::Put),
+        ..writing(lba, count)
+    }
+}
+
+/// WRITE AND VERIFY
+pub(super) fn write_and_verify(lba: u64, count: u32) -> Profile
+    ensures { result ≡ write_and_verify lba count }
+{
+    Profile {
+        data_out: data_of(count),
+        need: u64::from(count),
+        phases: Few::two(Phase::Put, Phase::Look),
+        ..writing(lba, count)
+    }
+}
+
+/// VERIFY
+pub(super) fn verify(compare: bool, lba: u64, count: u32) -> Profile
+    ensures { result ≡ verify compare lba count }
+{
+    if compare {
+        Profile {
+            data_out: data_of(count),
+            need: u64::from(count) + 1,
+            phases: Few::one(Phase::Compare),
+            ..reading(lba, count)
+        }
+    } else {
+        Profile {
+            need: 1,
+            phases: Few::one(Phase::Look),
+            ..reading(lba, count)
+        }
+    }
+}
+
+/// COMPARE AND WRITE
+pub(super) fn compare_and_write(lba: u64, count: u32) -> Profile
+    ensures { result ≡ compare_and_write lba count }
+{
+    Profile {
+        data_out: 2 * data_of(count),
+        need: 2 * u64::from(count) + 1,
+        phases: Few::two(Phase::Compare, Phase::PutSecondHalf),
+        ..writing(lba, count)
+    }
+}
+
+/// WRITE SAME
+pub(super) fn write_same(lba: u64, count: u32) -> Profile
+    ensures { result ≡ write_same lba count }
+{
+    Profile {
+        data_out: data_of(1),
+        need: 2,
+        phases: Few::one(Phase::PutSame),
+        ..writing(lba, count)
+    }
+}
+
+/// UNMAP
+pub(super) fn unmap(list: u16) -> Profile
+    ensures { result ≡ unmap list }
+{
+    Profile {
+        needs_started: true,
+        is_write: true,
+        data_out: u64::from(list),
+        need: 1,
+        phases: Few::one(Phase::Zero),
+        ..still(SerIdx::Un, Class::Writing)
+    }
+}
+
+/// SYNCHRONIZE CACHE
+pub(super) fn synchronize_cache(lba: u64, count: u32) -> Profile
+    ensures { result ≡ synchronize_cache lba count }
+{
+    Profile {
+        needs_started: true,
+        ranges: Ranges::one(lba, count),
+        ..still(SerIdx::Sy, Class::Writing)
+    }
 }

@@ -23,6 +23,7 @@ use Rattle.ct_book.specs.declared.event.Logged.{Logged}
 use Rattle.ct_book.specs.Works.{profile_in}
 use Rattle.ct_book.specs.Journals.{KeptWork}
 use Rattle.ct_exec.specs.Controls.{is_unrestricted, has_descriptors, tells_aborts, closing_control}
+use Rattle.ct_exec.specs.Data.{data_of_unit}
 use Rattle.ct_exec.specs.Executions.{refusal_of, refused_control, execute, plan_in, need_in}
 use Rattle.ct_machine.specs.declared.act.Act.TheVariants as act
 use Rattle.ct_machine.specs.declared.act.Answer.{Answer}
@@ -36,7 +37,7 @@ use Rattle.ct_machine.specs.Serial.{serial_disk}
 -- all that a run computes with
 unfoldable pub machine : Unit {0}
 unfolding row_of profile_in hits seeks plan_of need_of overlap footprint_of conflicts skips blocker_of next_ready_of
-    is_unrestricted has_descriptors tells_aborts closing_control refusal_of refused_control execute
+    is_unrestricted has_descriptors tells_aborts closing_control data_of_unit refusal_of refused_control execute
     plan_in need_in after turned_cause act_of replay journal_of serial_disk
 machine = tt
 

@@ -1,0 +1,5 @@
+pub mod Texts
+pub mod Allocation
+pub mod Inquiries
+pub mod Capacities
+pub mod Luns

@@ -1,0 +1,7 @@
+//! Tests of the crates below, in one place: a crate with tests of its own is proved twice.
+#![tactic(auto)]
+
+#[cfg(test)]
+mod forms;
+#[cfg(test)]
+mod operations;
