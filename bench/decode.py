@@ -1,9 +1,10 @@
 #!/usr/bin/env python3
-"""Has sg3-utils read what a target tells a host: bench/decode.py PROGRAM WORD ..
-The program plays a script that asks for INQUIRY data, capacities, the list of logical units and sense data. sg_inq,
-sg_vpd, sg_luns and sg_decode_sense decode the bytes of its report, and each decoded field is compared with what is
-meant. The fields of READ CAPACITY, which no tool of Debian 12 reads from a file, are taken out here. A message of a
-tool on standard error fails, as a length that isn't that of its data. With no sg_inq nothing is done."""
+"""Has sg3-utils and sdparm read what a target tells a host: bench/decode.py PROGRAM WORD ..
+The program plays a script that asks for INQUIRY data, capacities, the list of logical units, mode pages and sense data.
+sg_inq, sg_vpd, sg_luns, sdparm and sg_decode_sense decode the bytes of its report, and each decoded field is compared
+with what is meant. The fields of READ CAPACITY and of mode parameter headers, which no tool of Debian 12 reads from a
+file, are taken out here. A message of a tool on standard error fails, as a length that isn't that of its data. With no
+sg_inq or no sdparm nothing is done."""
 import os
 import re
 import shutil
@@ -42,14 +43,19 @@ PAGES = ["sv", "sn", "di", "bl", "lbpv"]
 CAPACITY = {"last LBA": BLOCKS - 1, "block length": 512}
 LONG_CAPACITY = {**CAPACITY, "P_TYPE, PROT_EN": 0, "exponents": 0, "LBPME": 1, "LBPRZ": 1, "lowest aligned LBA": 0}
 
+HEADER = {"MEDIUM TYPE": 0, "device-specific parameter": 0x10, "block descriptors": 8, "blocks": BLOCKS,
+          "block length": 512}
+PAGES_AT_FIRST = {**HEADER, "WCE": "1", "RCD": "0", "TST": "0", "D_SENSE": "0", "QAM": "0", "SWP": "0", "TAS": "0"}
+CHANGEABLE = {**HEADER, "WCE": "1", "RCD": "0", "TST": "0", "D_SENSE": "1", "QAM": "0", "SWP": "1", "TAS": "1"}
+CHANGED = {**HEADER, "device-specific parameter": 0x90, "WCE": "1", "D_SENSE": "1", "SWP": "1", "TAS": "0"}
 
 DESCRIPTORS = {
     "Descriptor format, current; Sense key": "No Sense", "Additional sense": "No additional sense information",
 }
 
 
-def sense(key, code):
-    return {"Fixed format, current; Sense key": key, "Additional sense": code}
+def sense(key, code, form="Fixed"):
+    return {f"{form} format, current; Sense key": key, "Additional sense": code}
 
 
 def tool(*words, text=None):
@@ -126,13 +132,38 @@ def luns(held, _folder):
     return {"luns": listed}, length_told(held, 0, 4, 8)
 
 
+def mode_pages(held, folder, words, told, header):
+    """The fields of the pages behind a header, of which some words are given; its length field tells so many bytes."""
+    path = os.path.join(folder, "held")
+    with open(path, "w", encoding="ascii") as file:
+        file.write(hexadecimal(held) + "\n")
+    text, complaints = tool("sdparm", f"--inhex={path}", "--all", *words)
+    found = dict(re.findall(r"^ +(\w+) +(-?\d+)", text, re.MULTILINE))
+    blocks, size = struct.unpack(">II", held[len(header):len(header) + 8])
+    found.update(zip(HEADER, (*header[-3:], blocks, size)))
+    return found, complaints or ("" if told else "the length isn't that of the data")
+
+
+def short_mode_pages(held, folder):
+    length, *header = held[:4]
+    return mode_pages(held, folder, ["--six"], length == len(held) - 1, (length, *header))
+
+
+def long_mode_pages(held, folder):
+    length, medium, device, _, descriptors = struct.unpack(">HBBHH", held[:8])
+    return mode_pages(held, folder, [], length == len(held) - 2, (length, 0, 0, 0, 0, medium, device, descriptors))
+
+
 def sense_data(held, _folder):
     text, complaints = tool("sg_decode_sense", "--file=-", text=hexadecimal(held) + "\n")
     return fields(text), complaints
 
 
-# name, CDB, who decodes the data or the sense data, what is meant
+SELECT = "151000001000 00*4.0a.0a.04.00.08.00*7"
+
+# name, CDB and perhaps data-out, who decodes the data or the sense data, what is meant; or a command that returns none
 COMMANDS = [
+    ("power on", "00.00*5", sense_data, sense("Unit Attention", "Power on occurred")),
     ("standard INQUIRY", "120000002400", standard, STANDARD),
     ("VPD page 00", "12010000ff00", page_names, {"pages": PAGES}),
     ("VPD page 80", "12018000ff00", page, {"Unit serial number": SERIAL}),
@@ -149,13 +180,30 @@ COMMANDS = [
     ("an unknown page", "12018100ff00", sense_data, sense("Illegal Request", "Invalid field in cdb")),
     ("a read past the end", "28000000080000000100", sense_data,
      sense("Illegal Request", "Logical block address out of range")),
+    ("MODE SENSE (6)", "1a003f00ff00", short_mode_pages, PAGES_AT_FIRST),
+    ("MODE SENSE (10)", "5a003f000000.00.00ff00", long_mode_pages, PAGES_AT_FIRST),
+    ("MODE SENSE (6), changeable", "1a007f00ff00", short_mode_pages, CHANGEABLE),
+    ("MODE SENSE (6), default", "1a00bf00ff00", short_mode_pages, PAGES_AT_FIRST),
+    ("saved mode pages", "1a00ff00ff00", sense_data, sense("Illegal Request", "Saving parameters not supported")),
+    ("a list that is too short", "151000001000 00*15", sense_data,
+     sense("Illegal Request", "Parameter list length error")),
+    ("a list that is in fault", "151000001000 00*16", sense_data,
+     sense("Illegal Request", "Invalid field in parameter list")),
+    ("stop", "1b0000000000", None, None),
+    ("a stopped unit", "000000000000", sense_data,
+     sense("Not Ready", "Logical unit not ready, initializing command required")),
+    ("start", "1b0000000100", None, None),
+    ("MODE SELECT (6)", SELECT, None, None),
+    ("MODE SENSE (10), changed", "5a003f000000.00.00ff00", long_mode_pages, CHANGED),
+    ("a protected write", "2a000000000000000100 01*512", sense_data,
+     sense("Data Protect", "Write protected", "Descriptor")),
 ]
 
 
 def script():
     lines = [f"lun 0 blocks {BLOCKS}", "port 0 a", "map 0 0 0 0"]
-    for number, (_, cdb, _, _) in enumerate(COMMANDS, 1):
-        lines += [f"cmd 0 0 0 {number} simple {cdb}", "sync"]
+    for number, (_, command, _, _) in enumerate(COMMANDS, 1):
+        lines += [f"cmd 0 0 0 {number} simple {command}", "sync"]
     return "".join(line + "\n" for line in lines)
 
 
@@ -186,8 +234,8 @@ def wrong_fields(held, decoder, meant, folder):
 def main():
     if len(sys.argv) < 2:
         sys.exit(__doc__)
-    if not shutil.which("sg_inq"):
-        print("skipped: there is no sg_inq (Debian: apt-get install sg3-utils)")
+    if not (shutil.which("sg_inq") and shutil.which("sdparm")):
+        print("skipped: there is no sg_inq, or no sdparm (Debian: apt-get install sg3-utils sdparm)")
         return
     run = subprocess.run(sys.argv[1:], input=script(), stdout=subprocess.PIPE, text=True, check=False)
     if run.returncode:
@@ -195,12 +243,13 @@ def main():
     told = answers(run.stdout)
     faults = 0
     with tempfile.TemporaryDirectory() as folder:
-        for number, (name, _, decoder, meant) in enumerate(COMMANDS, 1):
+        asking = [(number, *rest) for number, rest in enumerate(COMMANDS, 1) if rest[2]]
+        for number, name, _, decoder, meant in asking:
             wrong = wrong_fields(told.get(number), decoder, meant, folder)
             print(f"{name}: " + ("; ".join(wrong) if wrong else f"as meant, {len(meant)} compared"))
             faults += bool(wrong)
     if faults:
-        sys.exit(f"{faults} of {len(COMMANDS)} aren't as meant")
+        sys.exit(f"{faults} of {len(asking)} aren't as meant")
 
 
 main()

@@ -6,7 +6,11 @@ import sys
 
 # standard data, and each VPD page
 INQUIRIES = ["120000002400"] + [f"1201{page}00ff00" for page in ("00", "80", "83", "b0", "b2")]
-HEAD = ["lun 0 blocks 65536", "port 0 a"] + [f"map {i} 0 0 0" for i in range(16)]
+HOSTS = 4
+# each host first takes its unit attention
+HEAD = ["lun 0 blocks 65536", "port 0 a"]
+HEAD += [f"map {host} 0 0 0" for host in range(HOSTS)]
+HEAD += [f"cmd {host} 0 0 0 simple 000000000000" for host in range(HOSTS)] + ["sync"]
 
 
 WRITES = {6: 0x0A, 10: 0x2A, 12: 0xAA, 16: 0x8A}
@@ -26,7 +30,7 @@ def transfer(codes, size, lba, count):
 
 
 def line(tag, cdb, data=None):
-    words = f"cmd {tag % 16} 0 0 {tag} simple {cdb}"
+    words = f"cmd {tag % HOSTS} 0 0 {tag} simple {cdb}"
     return words if data is None else f"{words} {data}"
 
 
@@ -55,7 +59,7 @@ def script(lines):
 def inputs():
     random.seed(1)
     yield "noise", random.randbytes(8 << 20)
-    for commands in (32, 64):
+    for commands in (30, 60):
         yield f"counted-{commands}", script([write(k, 256, counted(256)) for k in range(commands)])
     for commands in (15, 30):
         yield f"pairs-{commands}", script([write(k, 256, random_pairs(256, "")) for k in range(commands)])
@@ -68,10 +72,10 @@ def inputs():
         sizes = [(6, 10, 12, 16)[k % 4] for k in range(commands)]
         writes = [write(k, 256, random_pairs(256, ""), size) for k, size in enumerate(sizes)]
         yield f"forms-{commands}", script(writes + [read_back(k, 256, size) for k, size in enumerate(sizes)])
-    yield "inquiries-64", script([line(k, INQUIRIES[k % len(INQUIRIES)]) for k in range(64)])
+    yield "inquiries-60", script([line(k, INQUIRIES[k % len(INQUIRIES)]) for k in range(60)])
     for steps in (16_000, 32_000, 65_000):
-        writes = [write(k, 256, counted(256)) for k in range(64)]
-        yield f"steps-{steps}", script(writes + [f"step 0 {k % 64 + 1} 1" for k in range(steps)])
+        writes = [write(k, 256, counted(256)) for k in range(60)]
+        yield f"steps-{steps}", script(writes + [f"step 0 {k % 60 + HOSTS + 1} 1" for k in range(steps)])
 
 
 def main():

@@ -37,9 +37,10 @@ enum Kind {
     Read,
     Write,
     Inquiry,
+    TestUnitReady,
 }
 
-/// What a command reads or writes; no blocks for INQUIRY.
+/// What a command reads or writes; no blocks for INQUIRY and TEST UNIT READY.
 #[derive(Clone, Copy)]
 struct Transfer {
     kind: Kind,
@@ -50,10 +51,11 @@ struct Transfer {
 /// Why a command is refused, with its additional sense code.
 #[derive(Clone, Copy)]
 enum Refusal {
-    ShortData = 0x1a,
-    Operation = 0x20,
-    Range = 0x21,
-    Field = 0x24,
+    ShortData = 0x1a00,
+    Operation = 0x2000,
+    Range = 0x2100,
+    Field = 0x2400,
+    PowerOn = 0x2901,
 }
 
 /// A command in the task set.
@@ -68,6 +70,7 @@ struct Task {
 
 struct Unit {
     disk: Vec<[u8; BLOCK]>,
+    told: HashSet<u32>,
     arrived: u32,
     tasks: Vec<Task>,
     report: Vec<u8>,
@@ -170,6 +173,7 @@ fn decode(cdb: &[u8]) -> Result<Transfer, Refusal> {
         0x08 | 0x28 | 0xa8 | 0x88 => Kind::Read,
         0x0a | 0x2a | 0xaa | 0x8a => Kind::Write,
         0x12 => Kind::Inquiry,
+        0x00 => Kind::TestUnitReady,
         _ => return Err(Refusal::Operation),
     };
     let size = match cdb[0] >> 5 {
@@ -183,7 +187,7 @@ fn decode(cdb: &[u8]) -> Result<Transfer, Refusal> {
     }
     let (first, count) = match (kind, size) {
         (Kind::Inquiry, _) if inquiry_data(cdb).is_none() => return Err(Refusal::Field),
-        (Kind::Inquiry, _) => (0, 0),
+        (Kind::Inquiry | Kind::TestUnitReady, _) => (0, 0),
         (_, 6) => (big_endian(&cdb[1..4]) & 0x1f_ffff, (cdb[4] as usize + 255) % 256 + 1),
         (_, 10) => (big_endian(&cdb[2..6]), big_endian(&cdb[7..9])),
         (_, 12) => (big_endian(&cdb[2..6]), big_endian(&cdb[6..10])),
@@ -237,6 +241,14 @@ impl Task {
         (one.kind == Kind::Write || two.kind == Kind::Write) && one.first.max(two.first) < end
     }
 
+    /// Whether it ends with a unit attention of its initiator, if there is one.
+    fn reports_attention(&self) -> bool {
+        !matches!(
+            self.transfer,
+            Err(Refusal::Operation | Refusal::Field) | Ok(Transfer { kind: Kind::Inquiry, .. })
+        )
+    }
+
     /// Moves on by at most so many blocks, and says by how many.
     fn move_on(&mut self, transfer: Transfer, disk: &mut [[u8; BLOCK]], most: usize) -> usize {
         let count = most.min(transfer.count - self.done);
@@ -246,6 +258,7 @@ impl Task {
             Kind::Read => self.got.extend_from_slice(bytes),
             Kind::Write => bytes.copy_from_slice(&self.command.data[BLOCK * self.done..][..BLOCK * count]),
             Kind::Inquiry => self.got = inquiry_data(&self.command.cdb).unwrap_or_default(),
+            Kind::TestUnitReady => {}
         }
         self.done += count;
         count
@@ -259,7 +272,7 @@ impl Unit {
         let nexus = (command.initiator, command.tag);
         writeln!(self.report, "came {number} a {at}").unwrap();
         if self.tasks.iter().any(|task| (task.command.initiator, task.command.tag) == nexus) {
-            writeln!(self.report, "turned {number} {}", check_condition(0x0b, 0x4e)).unwrap();
+            writeln!(self.report, "turned {number} {}", check_condition(0x0b, 0x4e00)).unwrap();
         } else {
             writeln!(self.report, "in {number}").unwrap();
             let transfer = check(&command, self.disk.len());
@@ -294,8 +307,11 @@ impl Unit {
     fn move_task(&mut self, place: usize, blocks: usize) {
         let task = &mut self.tasks[place];
         let number = task.number;
+        if !task.begun && task.reports_attention() && self.told.insert(task.command.initiator) {
+            task.transfer = Err(Refusal::PowerOn);
+        }
         match task.transfer {
-            Err(refusal) => writeln!(self.report, "ended {number} {}", check_condition(5, refusal as u8)).unwrap(),
+            Err(refusal) => writeln!(self.report, "ended {number} {}", refusal.sense()).unwrap(),
             Ok(transfer) => {
                 if !task.begun && transfer.count > 0 {
                     writeln!(self.report, "begun {number}").unwrap();
@@ -315,8 +331,15 @@ impl Unit {
     }
 }
 
-fn check_condition(key: u8, code: u8) -> String {
-    format!("CHECK CONDITION sense 7000{key:02x}000000000a00000000{code:02x}0000000000")
+impl Refusal {
+    fn sense(self) -> String {
+        let key = if matches!(self, Refusal::PowerOn) { 6 } else { 5 };
+        check_condition(key, self as u16)
+    }
+}
+
+fn check_condition(key: u8, code: u16) -> String {
+    format!("CHECK CONDITION sense 7000{key:02x}000000000a00000000{code:04x}00000000")
 }
 
 fn push_good(report: &mut Vec<u8>, task: &Task) {
@@ -360,7 +383,7 @@ fn push_disk(report: &mut Vec<u8>, disk: &[[u8; BLOCK]]) {
 fn play(script: Script) -> Vec<u8> {
     let Some(blocks) = script.blocks else { return b"report 1\ndone\n".to_vec() };
     let disk = vec![[0; BLOCK]; blocks as usize];
-    let mut unit = Unit { disk, arrived: 0, tasks: Vec::new(), report: b"report 1\nlun 0\n".to_vec() };
+    let mut unit = Unit { disk, told: HashSet::new(), arrived: 0, tasks: Vec::new(), report: b"report 1\nlun 0\n".to_vec() };
     for (index, line) in script.lines.into_iter().enumerate() {
         match line {
             Line::Lun { .. } | Line::Port | Line::Map { .. } => {}

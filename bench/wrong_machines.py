@@ -21,12 +21,12 @@ use Rattle.ct_cdb.specs.declared.op.Attr2.TheVariants.{Head}
 use Rattle.ct_tmf.specs.declared.function.Function.TheVariants.{AbortTask, LunReset}
 use Rattle.ct_book.specs.declared.event.Logged.{Logged}
 use Rattle.ct_machine.specs.declared.act.Opening.{Opening}
-use Rattle.ct_machine.specs.Runs.{Move, replay, journal_of}
+use Rattle.ct_machine.specs.Runs.{Move, replay}
 use Rattle.ct_machine.specs.Serial.{serial_disk}
 use Rattle.ct_machine.specs.Laws.{has, is_begin, is_entry, comes_first, made_by, beside}
 use Rattle.ct_machine.specs.Laws.{IsOrderly, RecordsPrefix, EachOnce, IsByCells, IsLawful}
 use Rattle.ct_machine.proofs.Samples.Parts.{machine, unit_of, command, comes, write10, write, read, bytes}
-use Rattle.ct_machine.proofs.Samples.Parts.{asks, step, deliver}
+use Rattle.ct_machine.proofs.Samples.Parts.{asks, step, deliver, played}
 
 abbrev unit : Opening
 unit = unit_of ha.MODE 16
@@ -35,7 +35,7 @@ abbrev script : List Move
 script = SCRIPT ∷ []
 
 abbrev journal : List Logged
-journal = journal_of unit script
+journal = played unit script
 
 differ : true ≡ false → ⊥
 differ e = cc
@@ -65,6 +65,10 @@ class Machine:
         return f"{self.head()}kept : {self.kept}\nunfolding machine beside\nkept = refl\n"
 
 
+# the events of the two commands that take the unit attentions, on one node and on two
+ON_ONE_NODE, ON_TWO_NODES = 6, 8
+
+
 def at(event, rest):
     """What the law says of an event, counted from 0."""
     return "law" + ".1" * event + ".0" + rest
@@ -74,8 +78,8 @@ def false_is_true(term):
     return f"differ (sym ({term}))"
 
 
-ABORT = "asks 7 A 0 (AbortTask (record { 0 = 1 }))"
-GRANTED = ["write 7 B 1 2 0 6 0x77", "deliver A", "step 1 1"]
+ABORT = "asks 10 A 0 (AbortTask (record { 0 = 1 }))"
+GRANTED = ["write 10 B 1 2 0 6 0x77", "deliver A", "step 3 1"]
 CUT = "cut_at (By by) _ task s = leaves task.no (record s { functions = noted by task.no s.functions })"
 
 MACHINES = [
@@ -86,25 +90,26 @@ MACHINES = [
         "blocked_by [] s task =\n"
         "    if is_head task.command.attr then None else blocker_of (task_set_of s) (held_of (length s.blocks) task)",
         "None",
-        ["read 5 A 0 1 0 2", "step 1 1", "comes A (command 7 A 1 1 Head (write10 0 1) (bytes 0x22 1))", "step 2 1"],
-        "IsOrderly", false_is_true(at(6, " 1 _ _ (λ e. differ (ap (λ (n : ℕ). n == 1) e)) refl refl refl refl")),
-        "has (is_begin 2) journal ≡ false",
+        ["read 8 A 0 1 0 2", "step 3 1", "comes A (command 10 A 1 1 Head (write10 0 1) (bytes 0x22 1))", "step 4 1"],
+        "IsOrderly", false_is_true(
+            at(ON_ONE_NODE + 6, " 3 _ _ (λ e. differ (ap (λ (n : ℕ). n == 3) e)) refl refl refl refl")),
+        "has (is_begin 4) journal ≡ false",
         "use Rattle.ct_matrix.specs.Conflicts.{is_head}\n"),
     # a begun command that an abort hits isn't cut, and moves after the answer
     Machine(
         "abort-cuts-later", "Acts",
         "if is_hit ask task && is_here task.stage then says (event.Cut",
         "if is_hit ask task && is_here task.stage && (done_at task.stage == 0) then says (event.Cut",
-        "None", ["write 5 A 0 1 0 8 0x33", "step 1 3", ABORT, "step 1 5"],
-        "RecordsPrefix", false_is_true(at(6, " _ 1 _ refl refl refl refl refl")),
-        "comes_first (is_entry 1) (is_entry 2) journal ≡ true"),
+        "None", ["write 8 A 0 1 0 8 0x33", "step 3 3", ABORT, "step 3 5"],
+        "RecordsPrefix", false_is_true(at(ON_ONE_NODE + 6, " _ 3 _ refl refl refl refl refl")),
+        "comes_first (is_entry 3) (is_entry 4) journal ≡ true"),
     # a cut command stays and moves after its entry
     Machine(
         "cut-moves-on", "Events", CUT,
         "cut_at (By by) _ task s = record s { functions = noted by task.no s.functions }",
-        "None", ["write 5 A 0 1 0 8 0x33", "step 1 3", ABORT, "step 1 5"],
-        "RecordsPrefix", f"differ ({at(8, '')})",
-        "made_by 1 journal ≡ 3"),
+        "None", ["write 8 A 0 1 0 8 0x33", "step 3 3", ABORT, "step 3 5"],
+        "RecordsPrefix", f"differ ({at(ON_ONE_NODE + 8, '')})",
+        "made_by 3 journal ≡ 3"),
     # an aborted write is undone, though its cut counts the blocks that it put
     Machine(
         "cut-rolls-back", "Events", CUT,
@@ -113,25 +118,25 @@ MACHINES = [
         "  blocks = (after_all (map (λ (byte : ℕ). 0) task.command.out) (plan_in (length s.blocks) task.command)\n"
         "      (record { blocks = s.blocks; got = [] })).blocks;\n"
         "})",
-        "None", ["write 5 A 0 1 0 8 0x33", "step 1 5", ABORT],
+        "None", ["write 8 A 0 1 0 8 0x33", "step 3 5", ABORT],
         "IsLawful",
         "differ (ap begins_with_zero (law.blocks (record { each = "
-        + "(refl, " * 8 + "tt" + ")" * 8 + "; last = refl }) refl))",
+        + "(refl, " * (ON_ONE_NODE + 8) + "tt" + ")" * (ON_ONE_NODE + 8) + "; last = refl }) refl))",
         "(replay unit journal).blocks ≡ (serial_disk unit journal).blocks"),
     # a function awaits no granted command
     Machine(
         "closes-beside-a-grant", "Events",
         "awaited_by ask tasks = map (λ (task : Task). task.no) (filter (is_awaited ask) tasks)",
         "awaited_by ask tasks = []",
-        "Serialise", GRANTED + ["deliver B", "step 1 2", "asks 12 A 0 LunReset"],
-        "RecordsPrefix", false_is_true(at(8, " _ 1 _ refl refl refl refl refl")),
-        "has (is_entry 2) journal ≡ false"),
+        "Serialise", GRANTED + ["deliver B", "step 3 2", "asks 15 A 0 LunReset"],
+        "RecordsPrefix", false_is_true(at(ON_TWO_NODES + 8, " _ 3 _ refl refl refl refl refl")),
+        "has (is_entry 4) journal ≡ false"),
     # node B steps a command before its grant comes
     Machine(
         "begins-before-its-grant", "Acts",
         "stepping_at Granted task count fault s = unchanged (answer.Away task.no) s",
         "stepping_at Granted task count fault s = moved task s (moving (There 0 []) task count fault s)",
-        "Serialise", GRANTED + ["step 1 2"],
+        "Serialise", GRANTED + ["step 3 2"],
         "IsByCells", "differ (ap begins_with_zero law.blocks)",
         "(replay unit journal).blocks ≡ (beside unit 0 journal).blocks"),
     # a command that an abort cuts leaves without an event
@@ -140,10 +145,10 @@ MACHINES = [
         "stopped = s.stopped ++ awaited_by ask s.tasks;",
         "stopped = s.stopped ++ awaited_by ask s.tasks;\n"
         "  tasks = filter (λ (task : Task). not (is_hit ask task && is_here task.stage)) s.tasks;",
-        "None", ["write 5 A 0 1 0 8 0x33", "step 1 3", ABORT],
+        "None", ["write 8 A 0 1 0 8 0x33", "step 3 3", ABORT],
         "EachOnce",
-        false_is_true("law.all (record { tasks = refl; functions = refl; to_a = refl; to_b = refl }) 1 refl"),
-        "has (is_entry 1) journal ≡ true"),
+        false_is_true("law.all (record { tasks = refl; functions = refl; to_a = refl; to_b = refl }) 3 refl"),
+        "has (is_entry 3) journal ≡ true"),
 ]
 
 

@@ -1,6 +1,7 @@
 ghost use Rattle.std.specs.Prelude.{◌≡◌, ◌≤◌, [], IfOk};
 ghost use Rattle.ct_word.specs.Nexuses.{IsNexus};
-ghost use Rattle.ct_cdb.specs.Profiles.{Fits};
+ghost use Rattle.ct_cdb.specs.Forms.{cdb_of};
+ghost use Rattle.ct_cdb.specs.Profiles.{Fits, reports};
 ghost use Rattle.ct_book.specs.Works.{room_for, profile_in};
 
 use ct_cdb::{Attr2, CdbBytes, Profile, rows_fit};
@@ -111,6 +112,7 @@ impl Command {
     pub fn profile(&self, blocks: u32) -> Profile
         ensures row { result ≡ profile_in blocks self.now }
         ensures fits { Fits result }
+        ensures reports { result.reports_attention ≡ reports (cdb_of self.now.cdb) }
     {
         rows_fit();
         Profile::by(self.cdb.decoded(), self.out.as_slice(), blocks)

@@ -5,14 +5,13 @@ use Rattle.ct_cdb.specs.declared.op.Op.TheVariants.{TestUnitReady, Verify}
 use Rattle.ct_cdb.specs.declared.op.Cdb.{Cdb}
 use Rattle.ct_cdb.specs.declared.op.CdbFault.{CdbFault}
 use Rattle.ct_cdb.specs.declared.op.SerIdx.{SerIdx}
-use Rattle.ct_cdb.specs.declared.op.SerIdx.TheVariants.{Tur}
+use Rattle.ct_cdb.specs.declared.op.SerIdx.TheVariants.{Tur, Inq}
 use Rattle.ct_cdb.specs.declared.profile.Class.{Class}
 use Rattle.ct_cdb.specs.declared.profile.Class.TheVariants.{Always}
 use Rattle.ct_cdb.specs.declared.profile.Profile.{Profile}
 use Rattle.ct_cdb.specs.Built.{is_built}
-use Rattle.ct_cdb.specs.Commands.Still.{still}
-use Rattle.ct_cdb.specs.Profiles.{profile_of, profile_by, built_row, operations, asked_of, room_of, Fits}
-use Rattle.ct_cdb.specs.Profiles.{is_indexed, is_classed}
+use Rattle.ct_cdb.specs.Profiles.{profile_of, profile_by, built_row, operations, asked_of, room_of, reports, Fits}
+use Rattle.ct_cdb.specs.Profiles.{refused, is_indexed, is_classed}
 
 -- the last clause is tried for each command that has none
 pub row_fits : (op : Op) (out : List ℕ) (blocks : ℕ) → Fits (profile_of op out blocks)
@@ -69,9 +68,9 @@ still_classed : (class : Class) → is_classed class [] ≡ true
 still_classed Always = refl
 still_classed _ = refl
 
--- so do those of a command that moves no block
-still_fits : (index : SerIdx) (class : Class) → Fits (still index class)
-still_fits index class =
+-- so do those of a command that isn't built, or of bytes that are no CDB
+refused_fits : (index : SerIdx) (class : Class) → Fits (refused index class)
+refused_fits index class =
     record {
       indexed = still_indexed index;
       classed = still_classed class;
@@ -85,22 +84,12 @@ still_fits index class =
 
 built_fits : (built : Bool) (profile : Profile) → Fits profile → Fits (built_row built profile)
 built_fits true profile fits = fits
-built_fits false profile fits = still_fits profile.index profile.class
+built_fits false profile fits = refused_fits profile.index profile.class
 
 pub decoded_fits : (decoded : Result Cdb CdbFault) (out : List ℕ) (blocks : ℕ) → Fits (profile_by decoded out blocks)
 decoded_fits (Ok cdb) out blocks =
     built_fits (is_built cdb.op) (profile_of cdb.op out blocks) (row_fits cdb.op out blocks)
-decoded_fits (Err fault) out blocks =
-    record {
-      indexed = refl;
-      classed = refl;
-      barred = refl;
-      awake = refl;
-      covered = omega arith;
-      buffered = λ some. omega arith;
-      modest = omega arith;
-      roomy = omega arith;
-    }
+decoded_fits (Err fault) out blocks = refused_fits Inq Always
 
 same_room : (op : Op) (out : List ℕ) (blocks : ℕ) → (profile_of op out blocks).data_in ≡ (profile_of op [] 0).data_in
 same_room TestUnitReady out blocks = refl
@@ -117,6 +106,24 @@ pub decoded_room : (decoded : Result Cdb CdbFault) (out : List ℕ) (blocks : �
 decoded_room (Ok cdb) out blocks =
     built_room (is_built cdb.op) (profile_of cdb.op out blocks) (profile_of cdb.op [] 0) (same_room cdb.op out blocks)
 decoded_room (Err fault) out blocks = refl
+
+same_reports : (op : Op) (out : List ℕ) (blocks : ℕ)
+    → (profile_of op out blocks).reports_attention ≡ (profile_of op [] 0).reports_attention
+same_reports TestUnitReady out blocks = refl
+same_reports _ out blocks = refl
+
+built_reports : (built : Bool) (one other : Profile) → one.reports_attention ≡ other.reports_attention
+    → (built_row built one).reports_attention ≡ (built_row built other).reports_attention
+built_reports true one other same = same
+built_reports false one other same = refl
+
+-- nor does it depend on them whether an attention is reported
+pub decoded_reports : (decoded : Result Cdb CdbFault) (out : List ℕ) (blocks : ℕ)
+    → (profile_by decoded out blocks).reports_attention ≡ reports decoded
+decoded_reports (Ok cdb) out blocks =
+    built_reports (is_built cdb.op) (profile_of cdb.op out blocks) (profile_of cdb.op [] 0)
+    (same_reports cdb.op out blocks)
+decoded_reports (Err fault) out blocks = refl
 
 row_operations : (op : Op) (out : List ℕ) (blocks : ℕ) → operations (profile_of op out blocks) ≤ asked_of op
 row_operations TestUnitReady out blocks = omega arith

@@ -47,19 +47,19 @@ profile_of (op.ModeSense form no_descriptor control page allocation) out blocks 
 profile_of (op.PersistentReserveIn action allocation) out blocks = persistent_reserve_in action allocation
 profile_of (op.PersistentReserveOut action list) out blocks = persistent_reserve_out list
 
--- the row of bytes that are no CDB
-abbrev pub undecoded : Profile
-undecoded = record (still Inq Always) { reports_attention = false }
+-- the row of a command that moves no block and reports no attention, as of bytes that are no CDB
+abbrev pub refused : SerIdx → Class → Profile
+refused index class = record (still index class) { reports_attention = false }
 
 -- the row of a command, of which index and class alone stand as long as it isn't built
 abbrev pub built_row : Bool → Profile → Profile
 built_row true profile = profile
-built_row false profile = still profile.index profile.class
+built_row false profile = refused profile.index profile.class
 
 -- the row of bytes, by what they decode to
 abbrev pub profile_by : Result Cdb CdbFault → List ℕ → ℕ → Profile
 profile_by (Ok cdb) out blocks = built_row (is_built cdb.op) (profile_of cdb.op out blocks)
-profile_by (Err fault) out blocks = undecoded
+profile_by (Err fault) out blocks = refused Inq Always
 
 -- the block operations of all phases
 abbrev pub operations : Profile → ℕ
@@ -69,8 +69,9 @@ operations profile = length profile.phases * total profile.ranges
 abbrev pub is_performed : ℕ → ℕ → Profile → Bool
 is_performed out blocks profile = not (nat_lt out profile.data_out) && list_all (is_inside blocks) profile.ranges
 
--- the serialisation index of a command, the block operations that it asks for, and the room for its data-in: columns
--- that depend neither on its data-out nor on the disk; a command whose data-out names its blocks asks for none
+-- the serialisation index of a command, the block operations that it asks for, the room for its data-in, and whether it
+-- reports an attention: columns that depend neither on its data-out nor on the disk; a command whose data-out names its
+-- blocks asks for none
 abbrev pub index_of : Op → SerIdx
 index_of op = (profile_of op [] 0).index
 
@@ -79,6 +80,9 @@ asked_of op = operations (profile_of op [] 0)
 
 abbrev pub room_of : Result Cdb CdbFault → ℕ
 room_of decoded = (profile_by decoded [] 0).data_in
+
+abbrev pub reports : Result Cdb CdbFault → Bool
+reports decoded = (profile_by decoded [] 0).reports_attention
 
 -- a phase reads blocks, or writes blocks
 abbrev pub reads : Phase → Bool

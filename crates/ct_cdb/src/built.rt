@@ -19,15 +19,15 @@ impl Op {
             | Op::ReadCapacity16 { .. }
             | Op::Read { .. }
             | Op::Write { .. }
-            | Op::SynchronizeCache { .. } => true,
+            | Op::SynchronizeCache { .. }
+            | Op::StartStopUnit { .. }
+            | Op::ModeSelect { .. }
+            | Op::ModeSense { .. } => true,
             Op::WriteAndVerify { .. }
             | Op::Verify { .. }
             | Op::CompareAndWrite { .. }
             | Op::WriteSame { .. }
             | Op::Unmap { .. }
-            | Op::StartStopUnit { .. }
-            | Op::ModeSelect { .. }
-            | Op::ModeSense { .. }
             | Op::PersistentReserveIn { .. }
             | Op::PersistentReserveOut { .. } => false,
         }

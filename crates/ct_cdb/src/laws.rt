@@ -7,7 +7,7 @@ ghost use Rattle.ct_cdb.specs.Forms.{cdb_of, row_of, accepted_cdb};
 ghost use Rattle.ct_cdb.specs.Table.{HasRow, IsAccepted, IsLowest, is_refused};
 ghost use Rattle.ct_cdb.specs.Encoding.{IsEncodable, bytes_of_cdb};
 ghost use Rattle.ct_cdb.specs.declared.op.Op.{Op};
-ghost use Rattle.ct_cdb.specs.Profiles.{profile_of, profile_by, room_of, Fits};
+ghost use Rattle.ct_cdb.specs.Profiles.{profile_of, profile_by, room_of, reports, Fits};
 
 use crate::op::CdbFault;
 
@@ -32,13 +32,16 @@ pub fn encoded_reads_back()
     ensures { (cdb : Cdb) → IsEncodable cdb → cdb_of (bytes_of_cdb cdb) ≡ Ok cdb }
 {}
 
-/// The columns of each command's row fit one another, and its room for data-in depends on the CDB alone.
+/// The columns of each command's row fit one another. Its room for data-in, and whether it reports an attention, depend on
+/// the CDB alone.
 pub fn rows_fit()
     ensures fits { (op : Op) (out : List ℕ) (blocks : ℕ) → Fits (profile_of op out blocks) }
     ensures undecoded { (decoded : Result Cdb AnyFault) (out : List ℕ) (blocks : ℕ) →
         Fits (profile_by decoded out blocks) }
     ensures room { (decoded : Result Cdb AnyFault) (out : List ℕ) (blocks : ℕ) →
         (profile_by decoded out blocks).data_in ≡ room_of decoded }
+    ensures reports { (decoded : Result Cdb AnyFault) (out : List ℕ) (blocks : ℕ) →
+        (profile_by decoded out blocks).reports_attention ≡ reports decoded }
 {}
 
 #[cfg(test)]

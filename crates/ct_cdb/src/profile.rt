@@ -8,7 +8,7 @@ mod reservations;
 ghost use Rattle.std.specs.Prelude.{◌≡◌};
 ghost use Rattle.std.specs.List.{list_any};
 ghost use Rattle.ct_cdb.specs.Commands.Still.{still};
-ghost use Rattle.ct_cdb.specs.Profiles.{reads, writes, profile_of, profile_by, undecoded, operations, index_of};
+ghost use Rattle.ct_cdb.specs.Profiles.{reads, writes, profile_of, profile_by, refused, operations, index_of};
 ghost use Rattle.ct_cdb.specs.Profiles.{asked_of, is_performed};
 
 use crate::few::Few;
@@ -140,10 +140,10 @@ impl Profile {
                 if cdb.op.is_built() {
                     profile
                 } else {
-                    still(profile.index, profile.class)
+                    refused(profile.index, profile.class)
                 }
             }
-            Err(_) => undecoded(),
+            Err(_) => refused(SerIdx::Inq, Class::Always),
         }
     }
 
@@ -202,13 +202,13 @@ fn still(index: SerIdx, class: Class) -> Profile
     }
 }
 
-// The row of bytes that are no CDB.
-fn undecoded() -> Profile
-    ensures { result ≡ undecoded }
+// The row of a command that isn't built, or of bytes that are no CDB.
+fn refused(index: SerIdx, class: Class) -> Profile
+    ensures { result ≡ refused index class }
 {
     Profile {
         reports_attention: false,
-        ..still(SerIdx::Inq, Class::Always)
+        ..still(index, class)
     }
 }
 

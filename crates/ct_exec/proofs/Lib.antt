@@ -1,2 +1,3 @@
+pub mod Unrefused
 pub mod UnitData
 pub mod Instants

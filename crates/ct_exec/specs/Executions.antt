@@ -1,22 +1,35 @@
 -- The whole execution of one command, at once (SBC-3, clause 5; SPC-4, 4.5).
-use Rattle.std.specs.Prelude.{ℕ, List, [], length, Bool, false, not, nat_lt, if◌then◌else◌, Option, None, Some, Result}
-use Rattle.std.specs.Prelude.{Ok, Err}
+use Rattle.std.specs.Prelude.{ℕ, List, [], ◌∷◌, length, Bool, true, false, not, ◌&&◌, nat_lt, if◌then◌else◌, Option, None}
+use Rattle.std.specs.Prelude.{Some, option_map, Result, Ok, Err}
 use Rattle.std.specs.List.{list_all}
+use Rattle.ct_word.specs.declared.names.Code.{Code}
+use Rattle.ct_word.specs.declared.names.Nexus.{Nexus}
 use Rattle.ct_word.specs.Nexuses.{no_nexuses}
+use Rattle.ct_cdb.specs.declared.op.Op.{Op}
+use Rattle.ct_cdb.specs.declared.op.Op.TheVariants as op
+use Rattle.ct_cdb.specs.declared.choices.PageControl.{PageControl}
+use Rattle.ct_cdb.specs.declared.choices.PageControl.TheVariants as page_control
 use Rattle.ct_cdb.specs.declared.op.Cdb.{Cdb}
 use Rattle.ct_cdb.specs.declared.op.CdbFault.{CdbFault}
 use Rattle.ct_cdb.specs.declared.op.CdbFault.TheVariants.{Empty, BadOperation, BadLength, BadField}
 use Rattle.ct_cdb.specs.declared.profile.Profile.{Profile}
 use Rattle.ct_cdb.specs.Built.{is_built}
 use Rattle.ct_cdb.specs.Forms.{cdb_of}
+use Rattle.ct_cdb.specs.Profiles.{reports}
 use Rattle.ct_cdb.specs.Ranges.{is_inside}
 use Rattle.ct_sense.specs.declared.reply.Reply.{Reply}
 use Rattle.ct_sense.specs.declared.reply.Status.TheVariants as status
 use Rattle.ct_sense.specs.declared.sense.SenseCode.{SenseCode}
 use Rattle.ct_sense.specs.declared.code.TheConstants.{INVALID_COMMAND_OPERATION_CODE, INVALID_FIELD_IN_CDB}
 use Rattle.ct_sense.specs.declared.code.TheConstants.{PARAMETER_LIST_LENGTH_ERROR, LBA_OUT_OF_RANGE}
+use Rattle.ct_sense.specs.declared.code.TheConstants.{INITIALIZING_COMMAND_REQUIRED, WRITE_PROTECTED}
+use Rattle.ct_sense.specs.declared.code.TheConstants.{SAVING_PARAMETERS_NOT_SUPPORTED}
 use Rattle.ct_sense.specs.declared.code.TheConstants.{MISCOMPARE_DURING_VERIFY, UNRECOVERED_READ_ERROR, WRITE_ERROR}
 use Rattle.ct_sense.specs.Codes.{sense_of}
+use Rattle.ct_param.specs.declared.fault.ListFault.{ListFault}
+use Rattle.ct_param.specs.Faults.{sense_code_of as sense_code_of_fault}
+use Rattle.ct_ua.specs.CodeSets.{sense_code_of}
+use Rattle.ct_ua.specs.Attentions.{first_code}
 use Rattle.ct_plan.specs.declared.operation.BlockOp.{BlockOp}
 use Rattle.ct_plan.specs.declared.operation.BlockOp.TheVariants as operations
 use Rattle.ct_plan.specs.Plans.{plan_of, need_of}
@@ -24,6 +37,8 @@ use Rattle.ct_plan.specs.Effects.{effect}
 use Rattle.ct_book.specs.declared.work.Command.{Command}
 use Rattle.ct_book.specs.Works.{profile_in}
 use Rattle.ct_exec.specs.Controls.{ControlState, Disk, has_descriptors}
+use Rattle.ct_exec.specs.Modes.{list_fault}
+use Rattle.ct_exec.specs.Changes.{attention_taken, changed_control}
 use Rattle.ct_exec.specs.Data.{data_of_unit}
 
 -- GOOD with these data
@@ -52,28 +67,90 @@ undecoded control BadOperation = check_condition control INVALID_COMMAND_OPERATI
 undecoded control (BadLength want got) = check_condition control INVALID_FIELD_IN_CDB None
 undecoded control (BadField byte) = check_condition control INVALID_FIELD_IN_CDB None
 
--- the first of the checks of a row that refuses: data-out that is too short; a range outside the disk
-abbrev pub row_refusal : ControlState → ℕ → ℕ → Profile → Option Reply
-row_refusal control blocks out profile =
-    if nat_lt out profile.data_out then Some (check_condition control PARAMETER_LIST_LENGTH_ERROR None)
-    else if not (list_all (is_inside blocks) profile.ranges) then Some (check_condition control LBA_OUT_OF_RANGE None)
-    else None
+-- Checks: each says with what reply it refuses, if it does
 
--- the first of the checks that refuses: the CDB, whether the command is built, and then those of its row
-abbrev pub refusal_by : ControlState → ℕ → ℕ → Result Cdb CdbFault → Profile → Option Reply
-refusal_by control blocks out (Err fault) profile = Some (undecoded control fault)
-refusal_by control blocks out (Ok cdb) profile =
-    if not (is_built cdb.op) then Some (check_condition control INVALID_COMMAND_OPERATION_CODE None)
-    else row_refusal control blocks out profile
+-- the command isn't built
+abbrev pub unbuilt : ControlState → Op → Option Reply
+unbuilt control op = if is_built op then None else Some (check_condition control INVALID_COMMAND_OPERATION_CODE None)
+
+-- its nexus has a unit attention, and it is one that reports it (SAM-5, 5.14)
+abbrev pub reported : ControlState → Nexus → Bool → Option Reply
+reported control nexus true =
+    option_map (λ (condition : Code). check_condition control (sense_code_of condition) None)
+    (first_code control.attentions nexus)
+reported control nexus false = None
+
+-- the unit is stopped, and it needs a started one (SBC-3, START STOP UNIT)
+abbrev pub stopped : ControlState → Profile → Option Reply
+stopped control profile =
+    if profile.needs_started && not control.is_started
+    then Some (check_condition control INITIALIZING_COMMAND_REQUIRED None) else None
+
+-- it asks for saved mode pages (SPC-4, MODE SENSE)
+abbrev pub is_saved : PageControl → Bool
+is_saved page_control.Saved = true
+is_saved _ = false
+
+abbrev pub asks_saved : Op → Bool
+asks_saved (op.ModeSense form no_descriptor values page allocation) = is_saved values
+asks_saved _ = false
+
+abbrev pub unsaved : ControlState → Op → Option Reply
+unsaved control op =
+    if asks_saved op then Some (check_condition control SAVING_PARAMETERS_NOT_SUPPORTED None) else None
+
+-- it came with fewer bytes of data-out than it asks for
+abbrev pub short_of_data : ControlState → ℕ → Profile → Option Reply
+short_of_data control out profile =
+    if nat_lt out profile.data_out then Some (check_condition control PARAMETER_LIST_LENGTH_ERROR None) else None
+
+-- its parameter list is in fault
+abbrev pub faulty_list : ControlState → List ℕ → Op → Option Reply
+faulty_list control out op =
+    option_map (λ (fault : ListFault). check_condition control (sense_code_of_fault fault) None)
+    (list_fault control.pages out op)
+
+-- a range isn't inside the disk
+abbrev pub out_of_range : ControlState → ℕ → Profile → Option Reply
+out_of_range control blocks profile =
+    if list_all (is_inside blocks) profile.ranges then None
+    else Some (check_condition control LBA_OUT_OF_RANGE None)
+
+-- it writes, and the unit is write protected (SPC-4, SWP of the Control mode page)
+abbrev pub write_protected : ControlState → Profile → Option Reply
+write_protected control profile =
+    if profile.is_write && control.pages.protect then Some (check_condition control WRITE_PROTECTED None) else None
+
+-- the first of some checks that refuses
+abbrev pub first_refusal : List (Option Reply) → Option Reply
+first_refusal [] = None
+first_refusal (Some reply ∷ checks) = Some reply
+first_refusal (None ∷ checks) = first_refusal checks
+
+-- the order of checks
+abbrev pub refusal_by : ControlState → ℕ → Nexus → List ℕ → Result Cdb CdbFault → Profile → Option Reply
+refusal_by control blocks nexus out (Err fault) profile = Some (undecoded control fault)
+refusal_by control blocks nexus out (Ok cdb) profile =
+    first_refusal (
+    unbuilt control cdb.op
+    ∷ reported control nexus profile.reports_attention
+    ∷ stopped control profile
+    ∷ unsaved control cdb.op
+    ∷ short_of_data control (length out) profile
+    ∷ faulty_list control out cdb.op
+    ∷ out_of_range control blocks profile
+    ∷ write_protected control profile
+    ∷ [])
 
 -- the reply that refuses a command when it begins, on a disk of so many blocks, if there is one
 unfoldable pub refusal_of : ControlState → ℕ → Command → Option Reply
 refusal_of control blocks command =
-    refusal_by control blocks (length command.out) (cdb_of command.cdb) (profile_in blocks command)
+    refusal_by control blocks command.nexus command.out (cdb_of command.cdb) (profile_in blocks command)
 
--- the control after a refusal
+-- the control after a refusal: a command that reports unit attentions took the first, if there was one
 unfoldable pub refused_control : ControlState → Command → ControlState
-refused_control control command = control
+refused_control control command =
+    if reports (cdb_of command.cdb) then attention_taken control command.nexus else control
 
 -- a command executed: the disk after it, its reply, and the nexuses whose commands it clears (SPC-4, PREEMPT
 -- AND ABORT)
@@ -82,8 +159,8 @@ pub record Execution : Type 0 where
   pub reply : Reply
   pub cleared : List Bool
 
--- what a command does that nothing refuses: what its phases do at once; it returns the data of the unit, or those of
--- its blocks
+-- what a command does that nothing refuses: what its phases do at once, and what it changes of the control; it returns
+-- the data of the unit, or those of its blocks, and its sense data have the form that was asked for before it
 abbrev pub effect_of : Disk → Command → Execution
 effect_of disk command =
     let blocks = length disk.blocks in
@@ -91,7 +168,7 @@ effect_of disk command =
     let told = data_of_unit disk.control blocks command in
     let done = effect command.out profile.ranges profile.phases (record { blocks = disk.blocks; got = told }) in
     record {
-      disk = record disk { blocks = done.cells.blocks };
+      disk = record { control = changed_control disk.control command; blocks = done.cells.blocks };
       reply = reply_moved disk.control done.difference done.cells.got;
       cleared = no_nexuses;
     }

@@ -2,6 +2,7 @@ ghost use Rattle.std.specs.Prelude.{◌≡◌, ◌≤◌, ℕ, List, [], length,
 ghost use Rattle.ct_book.specs.Works.{room_for};
 ghost use Rattle.ct_exec.specs.Executions.{refusal_of, plan_in, execute};
 
+use crate::change::change;
 use crate::control::Control;
 use crate::data::push_data;
 use crate::ended::Instant;
@@ -26,6 +27,7 @@ pub fn instant(c: &mut Control, command: &Command, body: Reserve<u8>, blocks: u3
 {
     let mut body = body;
     push_data(c, command, blocks, &mut body);
+    change(c, command);
     Instant {
         reply: moved_reply(body),
         cleared: NexusSet::open(),

@@ -1,13 +1,19 @@
-ghost use Rattle.std.specs.Prelude.{◌≡◌, ◌≤◌, IfSome, IfNone, option_map};
-ghost use Rattle.ct_exec.specs.Executions.{undecoded, row_refusal, refusal_of, refused_control, plan_in, need_in};
+ghost use Rattle.std.specs.Prelude.{◌≡◌, ◌≤◌, IfSome, IfNone, option_map, [], ◌∷◌, length};
+ghost use Rattle.ct_cdb.specs.Forms.{cdb_of};
+ghost use Rattle.ct_cdb.specs.Profiles.{reports};
+ghost use Rattle.ct_exec.specs.Executions.{undecoded, reported, stopped, asks_saved, unsaved, short_of_data};
+ghost use Rattle.ct_exec.specs.Executions.{faulty_list, out_of_range, write_protected, first_refusal};
+ghost use Rattle.ct_exec.specs.Executions.{refusal_of, refused_control, plan_in, need_in};
 ghost use Rattle.ct_exec.specs.Refusals.{refused_reply};
 
 use crate::control::Control;
+use crate::modes::list_fault;
 use crate::refusal::{Refusal, check_condition};
 use ct_book::Command;
-use ct_cdb::{CdbFault, Profile};
+use ct_cdb::{CdbFault, Op, PageControl, Profile};
 use ct_plan::Plan;
 use ct_sense::code;
+use ct_ua::sense_code;
 use ct_word::limit::MOST_BLOCKS;
 
 // Why bytes are refused that are no CDB.
@@ -24,20 +30,68 @@ fn undecoded(c: &Control, fault: CdbFault) -> Refusal
     }
 }
 
-// The first of the checks of a row that refuses a command with so many bytes of data-out.
-fn row_refusal(c: &Control, profile: &Profile, out: usize, blocks: u32) -> Option<Refusal>
-    ensures { row_refusal c.now blocks out profile.now ≡ option_map refused_reply result }
+// The first of the checks behind that of unit attentions that refuses an operation with this data-out.
+fn row_refusal(c: &Control, op: &Op, out: &[u8], profile: &Profile, blocks: u32) -> Option<Refusal>
+    ensures { first_refusal (
+        stopped c.now profile.now
+        ∷ unsaved c.now op.now
+        ∷ short_of_data c.now (length out.now) profile.now
+        ∷ faulty_list c.now out.now op.now
+        ∷ out_of_range c.now blocks profile.now
+        ∷ write_protected c.now profile.now
+        ∷ [])
+        ≡ option_map refused_reply result }
 {
-    if (out as u64) < profile.data_out {
+    if profile.needs_started && !c.is_started() {
+        return Some(check_condition(c, code::INITIALIZING_COMMAND_REQUIRED, None));
+    }
+    if asks_saved(op) {
+        return Some(check_condition(c, code::SAVING_PARAMETERS_NOT_SUPPORTED, None));
+    }
+    if (out.len() as u64) < profile.data_out {
         return Some(check_condition(c, code::PARAMETER_LIST_LENGTH_ERROR, None));
+    }
+    if let Some(fault) = list_fault(c.pages(), out, op) {
+        return Some(check_condition(c, fault.sense_code(), None));
     }
     if !profile.ranges.are_inside(blocks) {
         return Some(check_condition(c, code::LBA_OUT_OF_RANGE, None));
     }
+    if profile.is_write && c.pages().protect {
+        return Some(check_condition(c, code::WRITE_PROTECTED, None));
+    }
     None
 }
 
-/// The first of the checks that refuses a command, on a disk of so many blocks; None where it may begin.
+fn asks_saved(op: &Op) -> bool
+    ensures { result ≡ asks_saved op.now }
+{
+    match *op {
+        Op::ModeSense {
+            control: PageControl::Saved,
+            ..
+        } => true,
+        _ => false,
+    }
+}
+
+// The unit attention that a command reports, taken.
+#[tactic(auto, unfolding(crate::specs::Controls::has_descriptors, crate::specs::Executions::refused_control, ct_ua::specs::Attentions::first_code, ct_ua::specs::Attentions::after_take))]
+fn reported(c: &mut Control, command: &Command, profile: &Profile) -> Option<Refusal>
+    requires { profile.now.reports_attention ≡ reports (cdb_of command.now.cdb) }
+    ensures answer { reported c.old command.now.nexus profile.now.reports_attention ≡ option_map refused_reply result }
+    ensures refused { IfSome result (λ _. c.new ≡ refused_control c.old command.now) }
+    ensures unchanged { IfNone result ((c.new ≡ c.old) × (refused_control c.old command.now ≡ c.old)) }
+{
+    if !profile.reports_attention {
+        return None;
+    }
+    let condition = c.take_attention(command.nexus)?;
+    Some(check_condition(c, sense_code(condition), None))
+}
+
+/// The first of the checks that refuses a command, on a disk of so many blocks; None where it may begin. A unit attention
+/// that is reported is taken.
 #[tactic(auto, unfolding(crate::specs::Executions::refusal_of, crate::specs::Executions::refused_control))]
 pub fn check(c: &mut Control, command: &Command, blocks: u32) -> Option<Refusal>
     ensures answer { refusal_of c.old blocks command.now ≡ option_map refused_reply result }
@@ -50,7 +104,11 @@ pub fn check(c: &mut Control, command: &Command, blocks: u32) -> Option<Refusal>
             if !cdb.op.is_built() {
                 return Some(check_condition(c, code::INVALID_COMMAND_OPERATION_CODE, None));
             }
-            row_refusal(c, &command.profile(blocks), command.out.len(), blocks)
+            let profile = command.profile(blocks);
+            match reported(c, command, &profile) {
+                Some(refusal) => Some(refusal),
+                None => row_refusal(c, &cdb.op, command.out.as_slice(), &profile, blocks),
+            }
         }
     }
 }

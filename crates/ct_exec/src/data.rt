@@ -7,8 +7,10 @@ use crate::control::Control;
 use ct_book::Command;
 use ct_cdb::Op;
 use ct_inq::{capacity_10, capacity_16, inquiry, report_luns};
+use ct_pages::sense_mode;
 use ct_sense::{code, sense_bytes};
-use ct_word::Reserve;
+use ct_ua::sense_code;
+use ct_word::{Code, Nexus, Reserve};
 
 /// Adds the data of a command, on a disk of so many blocks.
 #[tactic(auto, unfolding(crate::specs::Data::data_of_unit))]
@@ -17,47 +19,60 @@ pub(crate) fn push_data(c: &Control, command: &Command, blocks: u32, into: &mut 
     ensures { into.new.items ≡ into.old.items ++ data_of_unit c.now blocks command.now }
 {
     if let Ok(cdb) = command.cdb.decoded() {
-        push_data_by(c, blocks, command.visible, &cdb.op, into);
+        push_data_by(c, blocks, command.nexus, command.visible, &cdb.op, into);
     }
 }
 
-fn push_data_by(c: &Control, blocks: u32, visible: u16, op: &Op, into: &mut Reserve<u8>)
-    requires { length (data_by c.now blocks visible op.now) ≤ into.old.room }
-    ensures { into.new.items ≡ into.old.items ++ data_by c.now blocks visible op.now }
+fn push_data_by(
+    c: &Control,
+    blocks: u32,
+    nexus: Nexus,
+    visible: u16,
+    op: &Op,
+    into: &mut Reserve<u8>,
+)
+    requires { length (data_by c.now blocks nexus visible op.now) ≤ into.old.room }
+    ensures { into.new.items ≡ into.old.items ++ data_by c.now blocks nexus visible op.now }
 {
     match *op {
         Op::RequestSense {
             descriptor,
             allocation,
-        } => push_sense(descriptor, allocation, into),
+        } => push_sense(c.first_attention(nexus), descriptor, allocation, into),
         Op::Inquiry { page, allocation } => inquiry(page, allocation, c.lun(), into),
         Op::ReportLuns { select, allocation } => report_luns(select, allocation, visible, into),
         Op::ReadCapacity10 => capacity_10(blocks, into),
         Op::ReadCapacity16 { allocation } => capacity_16(blocks, allocation, into),
-        Op::TestUnitReady
-        | Op::Read { .. }
-        | Op::Write { .. }
-        | Op::WriteAndVerify { .. }
-        | Op::Verify { .. }
-        | Op::CompareAndWrite { .. }
-        | Op::WriteSame { .. }
-        | Op::Unmap { .. }
-        | Op::SynchronizeCache { .. }
-        | Op::StartStopUnit { .. }
-        | Op::ModeSelect { .. }
-        | Op::ModeSense { .. }
-        | Op::PersistentReserveIn { .. }
-        | Op::PersistentReserveOut { .. } => {}
+        Op::ModeSense {
+            form,
+            no_descriptor,
+            control,
+            page,
+            allocation,
+        } => sense_mode(
+            &c.pages(),
+            blocks,
+            form,
+            no_descriptor,
+            control,
+            page,
+            allocation,
+            into,
+        ),
+        _ => {}
     }
 }
 
 // Adds what REQUEST SENSE returns.
-fn push_sense(descriptor: bool, allocation: u8, into: &mut Reserve<u8>)
-    requires { length (sense_data descriptor allocation) ≤ into.old.room }
-    ensures { into.new.items ≡ into.old.items ++ sense_data descriptor allocation }
+fn push_sense(condition: Option<Code>, descriptor: bool, allocation: u8, into: &mut Reserve<u8>)
+    requires { length (sense_data condition descriptor allocation) ≤ into.old.room }
+    ensures { into.new.items ≡ into.old.items ++ sense_data condition descriptor allocation }
 {
+    let told = match condition {
+        Some(condition) => sense_code(condition),
+        None => code::NO_ADDITIONAL_SENSE_INFORMATION,
+    };
     let mut bytes = [0; 20];
-    let sense = code::NO_ADDITIONAL_SENSE_INFORMATION.sense(None);
-    let size = sense_bytes(&sense, descriptor, &mut bytes);
+    let size = sense_bytes(&told.sense(None), descriptor, &mut bytes);
     into.append(&bytes[..size.min(usize::from(allocation))]);
 }

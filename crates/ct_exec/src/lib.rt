@@ -2,10 +2,12 @@
 #![tactic(auto)]
 
 mod at_once;
+mod change;
 mod checks;
 mod control;
 mod data;
 mod ended;
+mod modes;
 mod refusal;
 #[cfg(test)]
 mod tests;

@@ -25,9 +25,19 @@ fn command(alloc: Global, cdb: &[u8], out: &[u8]) -> Result<Cmd, Fail>
     Ok(Cmd::new(alloc, 7, nexus, 1, Tag(3), Attr2::Simple, cdb, out)?)
 }
 
-// The additional sense code of the refusal, on a disk of 3 blocks.
-fn refused(alloc: Global, cdb: &[u8], out: &[u8], blocks: u32) -> Result<Option<u8>, Fail> {
+const TEST_UNIT_READY: &[u8] = b"\0\0\0\0\0\0";
+
+// A control whose nexus has taken the unit attention of power on.
+fn ready(alloc: Global) -> Result<Control, Fail> {
     let mut control = Control::open(alloc, LunNo(0))?;
+    let cmd = command(alloc, TEST_UNIT_READY, &[])?;
+    check(&mut control, cmd.command(), 3);
+    Ok(control)
+}
+
+// The additional sense code of the refusal, on a disk of so many blocks.
+fn refused(alloc: Global, cdb: &[u8], out: &[u8], blocks: u32) -> Result<Option<u8>, Fail> {
+    let mut control = ready(alloc)?;
     let cmd = command(alloc, cdb, out)?;
     let code = match check(&mut control, cmd.command(), blocks) {
         Some(refusal) => match refusal.sense {
@@ -62,6 +72,11 @@ fn refuses(rt: HostRuntime) -> Result<(), Fail> {
     assert_eq!(rt; refused(alloc, WRITE, &[0; 1024], 2)?, Some(0x21));
     assert_eq!(rt; refused(alloc, WRITE, &[0; 1024], 3)?, None);
     assert_eq!(rt; refused(alloc, READ, &[], 2)?, Some(0x21));
+    // MODE SENSE of saved values, MODE SELECT with too few bytes and of a page that isn't there
+    assert_eq!(rt; refused(alloc, b"\x1a\0\xff\0\xff\0", &[], 3)?, Some(0x39));
+    let select = b"\x15\x10\0\0\x10\0";
+    assert_eq!(rt; refused(alloc, select, &[0; 15], 3)?, Some(0x1a));
+    assert_eq!(rt; refused(alloc, select, &[0; 16], 3)?, Some(0x26));
     Ok(())
 }
 
@@ -101,7 +116,7 @@ fn at_once(alloc: Global, command: &Command, body: Reserve<u8>) -> Result<Option
     requires empty { body.items ≡ [] }
     requires room { room_for command.now.cdb ≤ body.room }
 {
-    let mut control = Control::open(alloc, LunNo(0))?;
+    let mut control = ready(alloc)?;
     if check(&mut control, command, 3).is_some() || plan(command, 3).length() != 0 {
         return Ok(None);
     }

@@ -4,12 +4,12 @@
 ghost use Rattle.std.specs.Prelude.{◌≤◌, ◌<◌, ◌^◌, length};
 
 use crate::Pair;
-use crate::test_acts::{Said, arrive, next, step};
+use crate::test_acts::{Said, arrive, next, number_of, numbered, step, wake};
 use ct_book::{Book, Event};
 use ct_medium::{Backend, Ram};
 use ct_sense::Status;
 use ct_word::limit::{BLOCK_SIZE, MOST_STEP};
-use ct_word::{CmdNo, Ha, LunNo, Room};
+use ct_word::{Ha, LunNo, Room};
 use std::alloc::{AllocError, Global};
 use std::ops::Range;
 use std::test::Fail;
@@ -78,7 +78,7 @@ fn arrive_as<B: Backend>(
     arrive(alloc, pair, number, &command.cdb(), out.as_slice())
 }
 
-// Commands come; whether all enter the task set.
+// The first command comes and ends, and these come; whether all enter the task set.
 fn arrive_all<B: Backend>(
     alloc: Global,
     pair: &mut Pair<B>,
@@ -86,6 +86,7 @@ fn arrive_all<B: Backend>(
 ) -> Result<bool, Fail>
     requires { length commands.now < 2 ^ 32 }
 {
+    wake(alloc, pair)?;
     for (place, command) in commands.iter().enumerate() {
         let number = place as u32 + 1;
         if arrive_as(alloc, pair, number, command)? != Said::Queued(number) {
@@ -95,12 +96,14 @@ fn arrive_all<B: Backend>(
     Ok(true)
 }
 
-// The numbers of the commands that ended, in the order in which they did.
+// The numbers of the commands that ended behind the first, in the order in which they did.
 fn ended(alloc: Global, book: &Book) -> Result<Vec<u32>, AllocError> {
     let mut order = Vec::new(alloc);
     for place in 0..book.len() {
         if let Event::Ended { no } = *book.event(place) {
-            order.push(no.number())?;
+            if number_of(no) > 0 {
+                order.push(number_of(no))?;
+            }
         }
     }
     Ok(order)
@@ -150,7 +153,7 @@ fn run_numbered(disk: &mut [u8], commands: &[Access], book: &Book, number: u32) 
         0 => None,
         number => commands.get(number as usize - 1),
     };
-    match (command, book.reply(CmdNo::new(number))) {
+    match (command, book.reply(numbered(number))) {
         (Some(command), Some(reply)) => {
             reply.status == Status::Good && run_whole(disk, command, reply.body.as_slice())
         }
@@ -232,7 +235,7 @@ fn few() -> [Access; FEW] {
 const FEW_BLOCKS: u32 = 12;
 
 const FEW_ROOM: Room = Room {
-    commands: FEW as u32,
+    commands: FEW as u32 + 1,
     functions: 0,
     pieces: 29,
 };
@@ -335,9 +338,9 @@ const QUEUE: usize = DEPTH as usize;
 
 const QUEUE_BLOCKS: u32 = 72;
 
-// Room for one command more.
+// Room for the first command, and for one more than the task set has a place for.
 const QUEUE_ROOM: Room = Room {
-    commands: DEPTH + 1,
+    commands: DEPTH + 2,
     functions: 0,
     pieces: 2 * DEPTH + 1,
 };
@@ -391,7 +394,7 @@ fn link_by_link() -> [u32; QUEUE] {
 }
 
 fn is_turned_away(book: &Book, number: u32) -> bool {
-    match book.reply(CmdNo::new(number)) {
+    match book.reply(numbered(number)) {
         Some(reply) => reply.status == Status::TaskSetFull,
         None => false,
     }

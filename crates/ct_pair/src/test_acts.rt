@@ -1,4 +1,5 @@
-//! Acts of the tests, with answers that can be compared.
+//! Acts of the tests, with answers that can be compared. In each unit a first command takes the unit attention of power on;
+//! acts and answers number the commands behind it from 1 on.
 
 ghost use Rattle.std.specs.Prelude.{◌≤◌};
 
@@ -30,14 +31,29 @@ pub(crate) enum Said {
     Other,
 }
 
+/// The number of a command behind the first, and back.
+pub(crate) fn number_of(no: CmdNo) -> u32 {
+    no.number().saturating_sub(1)
+}
+
+pub(crate) fn numbered(number: u32) -> CmdNo {
+    CmdNo::new(number.saturating_add(1))
+}
+
+/// The first command comes and ends.
+pub(crate) fn wake<B: Backend>(alloc: Global, pair: &mut Pair<B>) -> Result<Said, Fail> {
+    arrive(alloc, pair, 0, &[0; 6], &[])?;
+    Ok(step(pair, 0, 1))
+}
+
 pub(crate) fn plain(answer: Answer) -> Said {
     match answer {
-        Answer::Queued(no) => Said::Queued(no.number()),
-        Answer::Turned(no) => Said::Turned(no.number()),
+        Answer::Queued(no) => Said::Queued(number_of(no)),
+        Answer::Turned(no) => Said::Turned(number_of(no)),
         Answer::NoRoom(work) => Said::NoRoom(name(&work)),
-        Answer::Moved(no) => Said::Moved(no.number()),
-        Answer::Ended(no, line) => Said::Ended(no.number(), line),
-        Answer::Blocked(by) => Said::Blocked(by.number()),
+        Answer::Moved(no) => Said::Moved(number_of(no)),
+        Answer::Ended(no, line) => Said::Ended(number_of(no), line),
+        Answer::Blocked(by) => Said::Blocked(number_of(by)),
         Answer::Gone => Said::Gone,
         Answer::Nothing => Said::Nothing,
         Answer::Idle => Said::Idle,
@@ -70,7 +86,7 @@ pub(crate) fn arrive<B: Backend>(
 pub(crate) fn step<B: Backend>(pair: &mut Pair<B>, no: u32, blocks: u32) -> Said
     requires { 1 ≤ blocks }
 {
-    plain(pair.act(Act::Step(CmdNo::new(no), blocks)))
+    plain(pair.act(Act::Step(numbered(no), blocks)))
 }
 
 pub(crate) fn next<B: Backend>(pair: &mut Pair<B>, blocks: u32) -> Said

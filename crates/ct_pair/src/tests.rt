@@ -1,10 +1,10 @@
 use super::*;
-use crate::test_acts::{NEXUS, Said, arrive, next, plain, step};
+use crate::test_acts::{NEXUS, Said, arrive, next, numbered, plain, step, wake};
 use ct_book::{Book, Event, Why, Work};
 use ct_medium::{Backend, FaultyRam, Ram};
 use ct_sense::Status;
 use ct_tmf::{Ask, Function};
-use ct_word::{CmdNo, Ha, LunNo, Node, Room};
+use ct_word::{Ha, LunNo, Node, Room};
 use std::alloc::Global;
 use std::test::Fail;
 
@@ -19,14 +19,14 @@ const READ_TWO_LOW: &[u8] = b"\x28\0\0\0\0\0\0\0\x02\0";
 const READ_TWO: &[u8] = b"\x28\0\0\0\0\x01\0\0\x02\0";
 
 const ROOM: Room = Room {
-    commands: 4,
+    commands: 5,
     functions: 0,
     pieces: 6,
 };
 
 // The byte that each block of the data of a command's reply begins with, up to two blocks.
 fn data<B: Backend>(pair: &Pair<B>, no: u32) -> (usize, u8, u8) {
-    match pair.book().reply(CmdNo::new(no)) {
+    match pair.book().reply(numbered(no)) {
         Some(reply) => {
             let body = reply.body.as_slice();
             let first = *body.get(0).unwrap_or(&0);
@@ -39,6 +39,7 @@ fn data<B: Backend>(pair: &Pair<B>, no: u32) -> (usize, u8, u8) {
 
 // A command without block operations, and what finds no room behind it.
 fn one_command<B: Backend>(alloc: Global, pair: &mut Pair<B>) -> Result<[Said; 7], Fail> {
+    wake(alloc, pair)?;
     let first = arrive(alloc, pair, 1, READ_NOTHING, &[])?;
     let second = arrive(alloc, pair, 2, READ_NOTHING, &[])?;
     let ask = Ask {
@@ -58,7 +59,7 @@ fn one_command<B: Backend>(alloc: Global, pair: &mut Pair<B>) -> Result<[Said; 7
 fn has_room_for_one_command(rt: HostRuntime) -> Result<(), Fail> {
     let alloc = rt.alloc();
     let room = Room {
-        commands: 1,
+        commands: 2,
         functions: 0,
         pieces: 0,
     };
@@ -78,13 +79,14 @@ fn has_room_for_one_command(rt: HostRuntime) -> Result<(), Fail> {
     assert_eq!(rt; said, wanted);
     assert_eq!(rt;
         (end.lun, end.book.len(), end.medium.len()),
-        (LunNo(3), 3, 8)
+        (LunNo(3), 6, 8)
     );
     Ok(())
 }
 
 // Two writes that overlap at block 1, and a command with the tag of the second; the first write ends in two pieces.
 fn overlap<B: Backend>(alloc: Global, pair: &mut Pair<B>) -> Result<[Said; 6], Fail> {
+    wake(alloc, pair)?;
     let first = arrive(alloc, pair, 1, WRITE_TWO, &[0x11; 1024])?;
     let second = arrive(alloc, pair, 2, WRITE_TWO_BEHIND, &[0x22; 1024])?;
     let repeated = arrive(alloc, pair, 2, READ_NOTHING, &[])?;
@@ -132,6 +134,7 @@ fn overlapping_writes_go_one_behind_another(rt: HostRuntime) -> Result<(), Fail>
 // A write for which the pool has room, a read for which it hasn't, and two commands without blocks, of which the task
 // set has a place for one.
 fn crowd<B: Backend>(alloc: Global, pair: &mut Pair<B>) -> Result<[Said; 4], Fail> {
+    wake(alloc, pair)?;
     let write = arrive(alloc, pair, 1, WRITE_TWO, &[5; 1024])?;
     let read = arrive(alloc, pair, 2, READ_TWO, &[])?;
     let nothing = arrive(alloc, pair, 3, READ_NOTHING, &[])?;
@@ -140,7 +143,7 @@ fn crowd<B: Backend>(alloc: Global, pair: &mut Pair<B>) -> Result<[Said; 4], Fai
 }
 
 fn status<B: Backend>(pair: &Pair<B>, no: u32) -> Option<Status> {
-    match pair.book().reply(CmdNo::new(no)) {
+    match pair.book().reply(numbered(no)) {
         Some(reply) => Some(reply.status),
         None => None,
     }
@@ -167,7 +170,7 @@ fn a_crowded_unit_turns_commands_away(rt: HostRuntime) -> Result<(), Fail> {
 // The medium cut the second write behind its first block.
 fn has_cut(book: &Book) -> bool {
     let cut = Event::Cut {
-        no: CmdNo::new(2),
+        no: numbered(2),
         puts: 1,
         why: Why::Medium,
         told: false,

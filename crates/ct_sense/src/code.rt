@@ -95,6 +95,69 @@ pub const WRITE_PROTECTED: SenseCode = SenseCode {
     ascq: 0x00,
 };
 
+/// 29/00: power on, reset or bus device reset occurred
+pub const POWER_ON_OR_RESET_OCCURRED: SenseCode = SenseCode {
+    key: key::UNIT_ATTENTION,
+    asc: 0x29,
+    ascq: 0x00,
+};
+
+/// 29/01: power on occurred
+pub const POWER_ON_OCCURRED: SenseCode = SenseCode {
+    key: key::UNIT_ATTENTION,
+    asc: 0x29,
+    ascq: 0x01,
+};
+
+/// 29/07: I_T nexus loss occurred
+pub const I_T_NEXUS_LOSS_OCCURRED: SenseCode = SenseCode {
+    key: key::UNIT_ATTENTION,
+    asc: 0x29,
+    ascq: 0x07,
+};
+
+/// 2A/01: mode parameters changed
+pub const MODE_PARAMETERS_CHANGED: SenseCode = SenseCode {
+    key: key::UNIT_ATTENTION,
+    asc: 0x2a,
+    ascq: 0x01,
+};
+
+/// 2A/03: reservations preempted
+pub const RESERVATIONS_PREEMPTED: SenseCode = SenseCode {
+    key: key::UNIT_ATTENTION,
+    asc: 0x2a,
+    ascq: 0x03,
+};
+
+/// 2A/04: reservations released
+pub const RESERVATIONS_RELEASED: SenseCode = SenseCode {
+    key: key::UNIT_ATTENTION,
+    asc: 0x2a,
+    ascq: 0x04,
+};
+
+/// 2A/05: registrations preempted
+pub const REGISTRATIONS_PREEMPTED: SenseCode = SenseCode {
+    key: key::UNIT_ATTENTION,
+    asc: 0x2a,
+    ascq: 0x05,
+};
+
+/// 2A/06: asymmetric access state changed
+pub const ASYMMETRIC_ACCESS_STATE_CHANGED: SenseCode = SenseCode {
+    key: key::UNIT_ATTENTION,
+    asc: 0x2a,
+    ascq: 0x06,
+};
+
+/// 2F/00: commands cleared by another initiator
+pub const COMMANDS_CLEARED_BY_ANOTHER_INITIATOR: SenseCode = SenseCode {
+    key: key::UNIT_ATTENTION,
+    asc: 0x2f,
+    ascq: 0x00,
+};
+
 /// 39/00: saving parameters not supported
 pub const SAVING_PARAMETERS_NOT_SUPPORTED: SenseCode = SenseCode {
     key: key::ILLEGAL_REQUEST,

@@ -4,4 +4,10 @@
 #[cfg(test)]
 mod forms;
 #[cfg(test)]
+mod mode_data;
+#[cfg(test)]
+mod mode_lists;
+#[cfg(test)]
 mod operations;
+#[cfg(test)]
+mod unmap_lists;

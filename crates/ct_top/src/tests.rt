@@ -34,6 +34,7 @@ const HEAD: &str = "lun 0 blocks 512\nport 0 a\nmap 0 0 0 0\nmap 1 0 0 0\n";
 const EMPTY_DISK: &str = "lun 0 blocks 512\nport 0 a\nmap 0 0 0 0\n";
 
 const WRITE_THEN_READ: &str = "lun 0 blocks 512\nport 0 a\nmap 0 0 0 0\nmap 1 0 0 0\n\
+    cmd 0 0 0 1 simple 000000000000\ncmd 1 0 0 1 simple 000000000000\nsync\n\
     cmd 0 0 0 1 simple 2a000000000000000100 a5*512\ncmd 0 0 0 2 simple 28000000000000000100\n";
 
 fn words_of(alloc: Global, texts: &[&str]) -> Result<Vec<String>, AllocError> {
@@ -375,9 +376,11 @@ fn reads_in_any_pieces(rt: HostRuntime) -> Result<(), Fail> {
             ..PLAIN
         };
         let (served, held) = serve(rt.alloc(), &["play"], WRITE_THEN_READ.as_bytes(), streams)?;
-        let report =
-            b"report 1\nlun 0\ncame 1 a 5\nin 1\ncame 2 a 6\nin 2\nbegun 1\nmoved 1 1\nended 1 GOOD\n\
-            begun 2\nmoved 2 1\nended 2 GOOD data a5*512\ndisk 0 0 a5*512\ndone\n";
+        let report = b"report 1\nlun 0\ncame 1 a 5\nin 1\ncame 2 a 6\nin 2\n\
+            ended 1 CHECK CONDITION sense 700006000000000a00000000290100000000\n\
+            ended 2 CHECK CONDITION sense 700006000000000a00000000290100000000\n\
+            came 3 a 8\nin 3\ncame 4 a 9\nin 4\nbegun 3\nmoved 3 1\nended 3 GOOD\n\
+            begun 4\nmoved 4 1\nended 4 GOOD data a5*512\ndisk 0 0 a5*512\ndone\n";
         assert_eq!(rt; served, done(report.len()), "in pieces of {most}");
         assert_eq!(rt; held.as_slice(), report.as_slice(), "in pieces of {most}");
     }

@@ -20,3 +20,11 @@ pub fn u32_at(bytes: &[u8], at: usize) -> u32
 {
     BigEndian::read_u32(&bytes[at..])
 }
+
+/// The number in the eight bytes from `at` on.
+pub fn u64_at(bytes: &[u8], at: usize) -> u64
+    requires { at + 8 ≤ length bytes.now }
+    ensures { result ≡ number_at 8 at bytes.now }
+{
+    BigEndian::read_u64(&bytes[at..])
+}

@@ -14,7 +14,7 @@ mod reserve;
 pub use block::Block;
 pub use bytes::Bytes;
 pub use decimals::read_decimal;
-pub use fields::{u16_at, u32_at};
+pub use fields::{u16_at, u32_at, u64_at};
 pub use laws::one_numeral;
 pub use names::{CmdNo, Code, Failed, Ha, LunNo, Nexus, NoMemory, Node, Room, Tag};
 pub use nexus_set::NexusSet;
@@ -47,9 +47,10 @@ mod tests {
 
     #[test]
     fn reads_fields(rt: HostRuntime) {
-        let bytes = [0, 1, 2, 3, 4, 5];
+        let bytes = [0, 1, 2, 3, 4, 5, 6, 7, 8];
         assert_eq!(rt; u16_at(&bytes, 1), 0x0102);
         assert_eq!(rt; u32_at(&bytes, 2), 0x0203_0405);
+        assert_eq!(rt; u64_at(&bytes, 1), 0x0102_0304_0506_0708);
     }
 
     #[test]

@@ -16,16 +16,16 @@ unit = unit_of ha.None 16
 
 abbrev abort_after_end_script : List Move
 abort_after_end_script =
-    no_read 5 A 0 1 ∷ next ∷ next ∷ asks 7 A 0 (AbortTask (record { 0 = 1 }))
-    ∷ asks 8 A 0 (QueryTask (record { 0 = 1 })) ∷ next ∷ []
+    no_read 8 A 0 1 ∷ next ∷ next ∷ asks 10 A 0 (AbortTask (record { 0 = 1 }))
+    ∷ asks 11 A 0 (QueryTask (record { 0 = 1 })) ∷ next ∷ []
 
 abort_after_end : shown unit abort_after_end_script 2 ≡ record {
   events =
-      event.Came 1 A 5 ∷ event.Enter 1 ∷ event.Ended 1 ∷ event.Came 2 A 7 ∷ event.Asked 2
-      ∷ event.Closed 2 Complete ∷ event.Came 3 A 8 ∷ event.Asked 3 ∷ event.Closed 3 Complete ∷ [];
+      event.Came 3 A 8 ∷ event.Enter 3 ∷ event.Ended 3 ∷ event.Came 4 A 10 ∷ event.Asked 4
+      ∷ event.Closed 4 Complete ∷ event.Came 5 A 11 ∷ event.Asked 5 ∷ event.Closed 5 Complete ∷ [];
   replies = good [] ∷ [];
   answers =
-      answer.Queued 1 ∷ answer.Ended 1 5 ∷ answer.Idle ∷ answer.Closed 2 Complete ∷ answer.Closed 3 Complete
+      answer.Queued 3 ∷ answer.Ended 3 8 ∷ answer.Idle ∷ answer.Closed 4 Complete ∷ answer.Closed 5 Complete
       ∷ answer.Idle ∷ [];
   blocks = filled 0 2;
   serial = filled 0 2;
@@ -35,15 +35,15 @@ abort_after_end = refl
 
 abbrev abort_before_end_script : List Move
 abort_before_end_script =
-    no_read 5 A 0 1 ∷ asks 6 A 0 (AbortTask (record { 0 = 1 })) ∷ asks 7 A 0 (QueryTask (record { 0 = 1 }))
+    no_read 8 A 0 1 ∷ asks 9 A 0 (AbortTask (record { 0 = 1 })) ∷ asks 10 A 0 (QueryTask (record { 0 = 1 }))
     ∷ next ∷ []
 
 abort_before_end : shown unit abort_before_end_script 2 ≡ record {
   events =
-      event.Came 1 A 5 ∷ event.Enter 1 ∷ event.Came 2 A 6 ∷ event.Asked 2 ∷ event.Cut 1 0 (By 2) false
-      ∷ event.Closed 2 Complete ∷ event.Came 3 A 7 ∷ event.Asked 3 ∷ event.Closed 3 Complete ∷ [];
+      event.Came 3 A 8 ∷ event.Enter 3 ∷ event.Came 4 A 9 ∷ event.Asked 4 ∷ event.Cut 3 0 (By 4) false
+      ∷ event.Closed 4 Complete ∷ event.Came 5 A 10 ∷ event.Asked 5 ∷ event.Closed 5 Complete ∷ [];
   replies = [];
-  answers = answer.Queued 1 ∷ answer.Closed 2 Complete ∷ answer.Closed 3 Complete ∷ answer.Idle ∷ [];
+  answers = answer.Queued 3 ∷ answer.Closed 4 Complete ∷ answer.Closed 5 Complete ∷ answer.Idle ∷ [];
   blocks = filled 0 2;
   serial = filled 0 2;
 }

@@ -16,17 +16,17 @@ unit = unit_of ha.None 32
 
 abbrev abort_cuts_write_script : List Move
 abort_cuts_write_script =
-    write 5 A 0 1 0 8 0x33 ∷ step 1 5 ∷ asks 7 A 0 (AbortTask (record { 0 = 1 })) ∷ read 8 A 0 2 0 8 ∷ next
-    ∷ step 1 1 ∷ next ∷ []
+    write 8 A 0 1 0 8 0x33 ∷ step 3 5 ∷ asks 10 A 0 (AbortTask (record { 0 = 1 })) ∷ read 11 A 0 2 0 8 ∷ next
+    ∷ step 3 1 ∷ next ∷ []
 
 abort_cuts_write : shown unit abort_cuts_write_script 6 ≡ record {
   events =
-      event.Came 1 A 5 ∷ event.Enter 1 ∷ event.Begun 1 ∷ event.Moved 1 5 ∷ event.Came 2 A 7 ∷ event.Asked 2
-      ∷ event.Cut 1 5 (By 2) false ∷ event.Closed 2 Complete ∷ event.Came 3 A 8 ∷ event.Enter 3
-      ∷ event.Begun 3 ∷ event.Moved 3 8 ∷ event.Ended 3 ∷ [];
+      event.Came 3 A 8 ∷ event.Enter 3 ∷ event.Begun 3 ∷ event.Moved 3 5 ∷ event.Came 4 A 10 ∷ event.Asked 4
+      ∷ event.Cut 3 5 (By 4) false ∷ event.Closed 4 Complete ∷ event.Came 5 A 11 ∷ event.Enter 5
+      ∷ event.Begun 5 ∷ event.Moved 5 8 ∷ event.Ended 5 ∷ [];
   replies = good (bytes 0x33 5 ++ bytes 0 3) ∷ [];
   answers =
-      answer.Queued 1 ∷ answer.Moved 1 ∷ answer.Closed 2 Complete ∷ answer.Queued 3 ∷ answer.Ended 3 8
+      answer.Queued 3 ∷ answer.Moved 3 ∷ answer.Closed 4 Complete ∷ answer.Queued 5 ∷ answer.Ended 5 11
       ∷ answer.Gone ∷ answer.Idle ∷ [];
   blocks = filled 0x33 5 ++ filled 0 1;
   serial = filled 0x33 5 ++ filled 0 1;

@@ -14,18 +14,18 @@ unit = record (unit_of ha.None 16) { depth = 2; pool = 4 }
 
 abbrev busy_and_full_script : List Move
 busy_and_full_script =
-    read 5 A 0 1 0 4 ∷ read 6 A 0 2 0 1 ∷ no_read 7 A 0 3 ∷ no_read 8 A 0 4 ∷ next ∷ next ∷ next
-    ∷ read 10 A 0 5 0 5 ∷ next ∷ []
+    read 8 A 0 1 0 4 ∷ read 9 A 0 2 0 1 ∷ no_read 10 A 0 3 ∷ no_read 11 A 0 4 ∷ next ∷ next ∷ next
+    ∷ read 13 A 0 5 0 5 ∷ next ∷ []
 
 busy_and_full : shown unit busy_and_full_script 2 ≡ record {
   events =
-      event.Came 1 A 5 ∷ event.Enter 1 ∷ event.Came 2 A 6 ∷ event.Turned 2 ∷ event.Came 3 A 7 ∷ event.Enter 3
-      ∷ event.Came 4 A 8 ∷ event.Turned 4 ∷ event.Begun 1 ∷ event.Moved 1 4 ∷ event.Ended 1 ∷ event.Ended 3
-      ∷ event.Came 5 A 10 ∷ event.Turned 5 ∷ [];
+      event.Came 3 A 8 ∷ event.Enter 3 ∷ event.Came 4 A 9 ∷ event.Turned 4 ∷ event.Came 5 A 10 ∷ event.Enter 5
+      ∷ event.Came 6 A 11 ∷ event.Turned 6 ∷ event.Begun 3 ∷ event.Moved 3 4 ∷ event.Ended 3 ∷ event.Ended 5
+      ∷ event.Came 7 A 13 ∷ event.Turned 7 ∷ [];
   replies = with_status Busy ∷ with_status TaskSetFull ∷ good (bytes 0 4) ∷ good [] ∷ with_status Busy ∷ [];
   answers =
-      answer.Queued 1 ∷ answer.Turned 2 ∷ answer.Queued 3 ∷ answer.Turned 4 ∷ answer.Ended 1 5
-      ∷ answer.Ended 3 7 ∷ answer.Idle ∷ answer.Turned 5 ∷ answer.Idle ∷ [];
+      answer.Queued 3 ∷ answer.Turned 4 ∷ answer.Queued 5 ∷ answer.Turned 6 ∷ answer.Ended 3 8
+      ∷ answer.Ended 5 10 ∷ answer.Idle ∷ answer.Turned 7 ∷ answer.Idle ∷ [];
   blocks = filled 0 2;
   serial = filled 0 2;
 }

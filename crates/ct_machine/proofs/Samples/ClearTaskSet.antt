@@ -15,16 +15,16 @@ abbrev unit : Opening
 unit = unit_of ha.None 16
 
 abbrev clear_task_set_script : List Move
-clear_task_set_script = write 5 A 1 3 0 4 0x44 ∷ read 6 A 0 1 8 1 ∷ step 1 1 ∷ asks 8 A 0 ClearTaskSet ∷ next ∷ []
+clear_task_set_script = write 8 A 1 3 0 4 0x44 ∷ read 9 A 0 1 8 1 ∷ step 3 1 ∷ asks 11 A 0 ClearTaskSet ∷ next ∷ []
 
 clear_task_set : shown unit clear_task_set_script 2 ≡ record {
   events =
-      event.Came 1 A 5 ∷ event.Enter 1 ∷ event.Came 2 A 6 ∷ event.Enter 2 ∷ event.Begun 1 ∷ event.Moved 1 1
-      ∷ event.Came 3 A 8 ∷ event.Asked 3 ∷ event.Cut 1 1 (By 3) false ∷ event.Cut 2 0 (By 3) false
-      ∷ event.Closed 3 Complete ∷ [];
+      event.Came 3 A 8 ∷ event.Enter 3 ∷ event.Came 4 A 9 ∷ event.Enter 4 ∷ event.Begun 3 ∷ event.Moved 3 1
+      ∷ event.Came 5 A 11 ∷ event.Asked 5 ∷ event.Cut 3 1 (By 5) false ∷ event.Cut 4 0 (By 5) false
+      ∷ event.Closed 5 Complete ∷ [];
   replies = [];
   answers =
-      answer.Queued 1 ∷ answer.Queued 2 ∷ answer.Moved 1 ∷ answer.Closed 3 Complete ∷ answer.Idle ∷ [];
+      answer.Queued 3 ∷ answer.Queued 4 ∷ answer.Moved 3 ∷ answer.Closed 5 Complete ∷ answer.Idle ∷ [];
   blocks = filled 0x44 1 ++ filled 0 1;
   serial = filled 0x44 1 ++ filled 0 1;
 }
@@ -33,17 +33,17 @@ clear_task_set = refl
 
 abbrev abort_task_set_script : List Move
 abort_task_set_script =
-    write 5 A 1 3 0 4 0x44 ∷ read 6 A 0 1 8 1 ∷ step 1 1 ∷ asks 8 A 0 AbortTaskSet ∷ asks 9 A 1 NexusReset
+    write 8 A 1 3 0 4 0x44 ∷ read 9 A 0 1 8 1 ∷ step 3 1 ∷ asks 11 A 0 AbortTaskSet ∷ asks 12 A 1 NexusReset
     ∷ next ∷ []
 
 abort_task_set : shown unit abort_task_set_script 2 ≡ record {
   events =
-      event.Came 1 A 5 ∷ event.Enter 1 ∷ event.Came 2 A 6 ∷ event.Enter 2 ∷ event.Begun 1 ∷ event.Moved 1 1
-      ∷ event.Came 3 A 8 ∷ event.Asked 3 ∷ event.Cut 2 0 (By 3) false ∷ event.Closed 3 Complete
-      ∷ event.Came 4 A 9 ∷ event.Asked 4 ∷ event.Cut 1 1 (By 4) false ∷ event.Closed 4 Complete ∷ [];
+      event.Came 3 A 8 ∷ event.Enter 3 ∷ event.Came 4 A 9 ∷ event.Enter 4 ∷ event.Begun 3 ∷ event.Moved 3 1
+      ∷ event.Came 5 A 11 ∷ event.Asked 5 ∷ event.Cut 4 0 (By 5) false ∷ event.Closed 5 Complete
+      ∷ event.Came 6 A 12 ∷ event.Asked 6 ∷ event.Cut 3 1 (By 6) false ∷ event.Closed 6 Complete ∷ [];
   replies = [];
   answers =
-      answer.Queued 1 ∷ answer.Queued 2 ∷ answer.Moved 1 ∷ answer.Closed 3 Complete ∷ answer.Closed 4 Complete
+      answer.Queued 3 ∷ answer.Queued 4 ∷ answer.Moved 3 ∷ answer.Closed 5 Complete ∷ answer.Closed 6 Complete
       ∷ answer.Idle ∷ [];
   blocks = filled 0x44 1 ++ filled 0 1;
   serial = filled 0x44 1 ++ filled 0 1;

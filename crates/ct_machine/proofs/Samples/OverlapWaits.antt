@@ -13,18 +13,18 @@ unit = unit_of ha.None 32
 
 abbrev overlap_waits_script : List Move
 overlap_waits_script =
-    write 5 A 0 1 0 8 0x11 ∷ read 6 A 1 1 4 8 ∷ read 7 A 1 2 8 8 ∷ step 1 3 ∷ step 2 8 ∷ step 3 8 ∷ next
+    write 8 A 0 1 0 8 0x11 ∷ read 9 A 1 1 4 8 ∷ read 10 A 1 2 8 8 ∷ step 3 3 ∷ step 4 8 ∷ step 5 8 ∷ next
     ∷ next ∷ next ∷ []
 
 overlap_waits : shown unit overlap_waits_script 9 ≡ record {
   events =
-      event.Came 1 A 5 ∷ event.Enter 1 ∷ event.Came 2 A 6 ∷ event.Enter 2 ∷ event.Came 3 A 7 ∷ event.Enter 3
-      ∷ event.Begun 1 ∷ event.Moved 1 3 ∷ event.Begun 3 ∷ event.Moved 3 8 ∷ event.Ended 3 ∷ event.Moved 1 5
-      ∷ event.Ended 1 ∷ event.Begun 2 ∷ event.Moved 2 8 ∷ event.Ended 2 ∷ [];
+      event.Came 3 A 8 ∷ event.Enter 3 ∷ event.Came 4 A 9 ∷ event.Enter 4 ∷ event.Came 5 A 10 ∷ event.Enter 5
+      ∷ event.Begun 3 ∷ event.Moved 3 3 ∷ event.Begun 5 ∷ event.Moved 5 8 ∷ event.Ended 5 ∷ event.Moved 3 5
+      ∷ event.Ended 3 ∷ event.Begun 4 ∷ event.Moved 4 8 ∷ event.Ended 4 ∷ [];
   replies = good (bytes 0 8) ∷ good [] ∷ good (bytes 0x11 4 ++ bytes 0 4) ∷ [];
   answers =
-      answer.Queued 1 ∷ answer.Queued 2 ∷ answer.Queued 3 ∷ answer.Moved 1 ∷ answer.Blocked 1
-      ∷ answer.Ended 3 7 ∷ answer.Ended 1 5 ∷ answer.Ended 2 6 ∷ answer.Idle ∷ [];
+      answer.Queued 3 ∷ answer.Queued 4 ∷ answer.Queued 5 ∷ answer.Moved 3 ∷ answer.Blocked 3
+      ∷ answer.Ended 5 10 ∷ answer.Ended 3 8 ∷ answer.Ended 4 9 ∷ answer.Idle ∷ [];
   blocks = filled 0x11 8 ++ filled 0 1;
   serial = filled 0x11 8 ++ filled 0 1;
 }

@@ -1,10 +1,12 @@
--- What the samples are made of: openings, works, moves, and what a run shows. No nexus has a unit attention at first, and
--- a READ (10) of no blocks is the command that ends at once.
+-- What the samples are made of: openings, works, moves, and what a run shows. At first two initiators take the unit
+-- attention of power on; what they see of it isn't shown. A READ (10) of no blocks is the command that ends at once.
 use Rattle.std.specs.List.{filter_map}
-use Rattle.std.proofs.Common.{ℕ, ◌*◌, List, [], ◌∷◌, ◌++◌, false, map, take, replicate, Option, None, Some}
+use Rattle.std.proofs.Common.{ℕ, ◌*◌, List, [], ◌∷◌, ◌++◌, false, length, map, take, drop, replicate, Option, None, Some}
 use Rattle.ct_word.specs.declared.names.Ha.{Ha}
+use Rattle.ct_word.specs.declared.names.Ha.TheVariants as ha
 use Rattle.ct_word.specs.declared.names.Node.{Node}
 use Rattle.ct_word.specs.declared.names.Node.TheVariants.{A, B}
+use Rattle.ct_word.specs.Nexuses.{no_nexuses}
 use Rattle.ct_cdb.specs.declared.op.Attr2.{Attr2}
 use Rattle.ct_cdb.specs.declared.op.Attr2.TheVariants.{Simple}
 use Rattle.ct_cdb.specs.Forms.{row_of}
@@ -23,6 +25,11 @@ use Rattle.ct_book.specs.declared.event.Logged.{Logged}
 use Rattle.ct_book.specs.Works.{profile_in}
 use Rattle.ct_book.specs.Journals.{KeptWork}
 use Rattle.ct_exec.specs.Controls.{is_unrestricted, has_descriptors, tells_aborts, closing_control}
+use Rattle.ct_param.specs.ModeLists.{mode_list_of}
+use Rattle.ct_pages.specs.Selects.{selected_pages}
+use Rattle.ct_pages.specs.Senses.{whole_mode_data, mode_data}
+use Rattle.ct_ua.specs.Attentions.{power_on_attentions, first_code, after_take}
+use Rattle.ct_exec.specs.Changes.{changed_control}
 use Rattle.ct_exec.specs.Data.{data_of_unit}
 use Rattle.ct_exec.specs.Executions.{refusal_of, refused_control, execute, plan_in, need_in}
 use Rattle.ct_machine.specs.declared.act.Act.TheVariants as act
@@ -36,8 +43,9 @@ use Rattle.ct_machine.specs.Serial.{serial_disk}
 
 -- all that a run computes with
 unfoldable pub machine : Unit {0}
-unfolding row_of profile_in hits seeks plan_of need_of overlap footprint_of conflicts skips blocker_of next_ready_of
-    is_unrestricted has_descriptors tells_aborts closing_control data_of_unit refusal_of refused_control execute
+unfolding no_nexuses row_of profile_in hits seeks plan_of need_of overlap footprint_of conflicts skips blocker_of next_ready_of
+    mode_list_of selected_pages whole_mode_data mode_data power_on_attentions first_code after_take is_unrestricted has_descriptors tells_aborts closing_control data_of_unit
+    changed_control refusal_of refused_control execute
     plan_in need_in after turned_cause act_of replay journal_of serial_disk
 machine = tt
 
@@ -114,6 +122,22 @@ deliver node = record { act = act.Deliver node; fault = None }
 abbrev pub next : Move
 next = record { act = act.Next 65536; fault = None }
 
+-- TEST UNIT READY of initiator 0 at node A, and of initiator 1, who is at node B where there are two
+abbrev pub is_ready : ℕ → Node → ℕ → Move
+is_ready line node init = comes node (command line node init 1 Simple (0 ∷ 0 ∷ 0 ∷ 0 ∷ 0 ∷ 0 ∷ []) [])
+
+abbrev pub other_node : Ha → Node
+other_node ha.None = A
+other_node ha.Serialise = B
+other_node ha.Transfer = B
+
+abbrev pub prelude : Opening → List Move
+prelude o = is_ready 5 A 0 ∷ is_ready 6 (other_node o.ha) 1 ∷ replicate 8 next
+
+-- the journal of moves behind that
+abbrev pub played : Opening → List Move → List Logged
+played o moves = journal_of o (prelude o ++ moves)
+
 -- what a run shows: its events, the replies with them, the answers of its acts, and the first blocks of the disk, as
 -- the run leaves them and as the entries of its journal make them one at a time
 pub record Shown : Type 0 where
@@ -129,21 +153,21 @@ answers_behind o journal (move ∷ moves) =
     let done = act_of (replay o journal) move.act move.fault in
     done.answer ∷ answers_behind o (journal ++ done.journal) moves
 
-abbrev pub shown_of : Opening → List Move → List Logged → ℕ → Shown
-shown_of o moves journal blocks = record {
-  events = map (λ (logged : Logged). logged.event) journal;
-  replies = filter_map (λ (logged : Logged). logged.reply) journal;
-  answers = answers_behind o [] moves;
+abbrev pub shown_of : Opening → List Move → List Logged → List Logged → ℕ → Shown
+shown_of o moves before journal blocks = record {
+  events = map (λ (logged : Logged). logged.event) (drop (length before) journal);
+  replies = filter_map (λ (logged : Logged). logged.reply) (drop (length before) journal);
+  answers = answers_behind o before moves;
   blocks = take blocks (replay o journal).blocks;
   serial = take blocks (serial_disk o journal).blocks;
 }
 
 abbrev pub shown : Opening → List Move → ℕ → Shown
-shown o moves blocks = shown_of o moves (journal_of o moves) blocks
+shown o moves blocks = shown_of o moves (played o []) (played o moves) blocks
 
 -- the numbers of the task set in queue order
 abbrev pub queue_of : Opening → List Move → List ℕ
-queue_of o moves = map (λ (task : Task). task.no) (replay o (journal_of o moves)).tasks
+queue_of o moves = map (λ (task : Task). task.no) (replay o (played o moves)).tasks
 
 -- replies
 

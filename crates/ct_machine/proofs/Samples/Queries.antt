@@ -15,19 +15,19 @@ unit = unit_of ha.None 16
 
 abbrev queries_script : List Move
 queries_script =
-    no_read 5 A 0 1 ∷ asks 6 A 0 (QueryTask (record { 0 = 1 })) ∷ asks 7 A 0 (QueryTask (record { 0 = 2 }))
-    ∷ asks 8 A 1 (QueryTask (record { 0 = 1 })) ∷ asks 9 A 0 QueryTaskSet ∷ next ∷ next ∷ []
+    no_read 8 A 0 1 ∷ asks 9 A 0 (QueryTask (record { 0 = 1 })) ∷ asks 10 A 0 (QueryTask (record { 0 = 2 }))
+    ∷ asks 11 A 1 (QueryTask (record { 0 = 1 })) ∷ asks 12 A 0 QueryTaskSet ∷ next ∷ next ∷ []
 
 queries : shown unit queries_script 2 ≡ record {
   events =
-      event.Came 1 A 5 ∷ event.Enter 1 ∷ event.Came 2 A 6 ∷ event.Asked 2 ∷ event.Closed 2 Succeeded
-      ∷ event.Came 3 A 7 ∷ event.Asked 3 ∷ event.Closed 3 Complete ∷ event.Came 4 A 8 ∷ event.Asked 4
-      ∷ event.Closed 4 Complete ∷ event.Came 5 A 9 ∷ event.Asked 5 ∷ event.Closed 5 Succeeded ∷ event.Ended 1
+      event.Came 3 A 8 ∷ event.Enter 3 ∷ event.Came 4 A 9 ∷ event.Asked 4 ∷ event.Closed 4 Succeeded
+      ∷ event.Came 5 A 10 ∷ event.Asked 5 ∷ event.Closed 5 Complete ∷ event.Came 6 A 11 ∷ event.Asked 6
+      ∷ event.Closed 6 Complete ∷ event.Came 7 A 12 ∷ event.Asked 7 ∷ event.Closed 7 Succeeded ∷ event.Ended 3
       ∷ [];
   replies = good [] ∷ [];
   answers =
-      answer.Queued 1 ∷ answer.Closed 2 Succeeded ∷ answer.Closed 3 Complete ∷ answer.Closed 4 Complete
-      ∷ answer.Closed 5 Succeeded ∷ answer.Ended 1 5 ∷ answer.Idle ∷ [];
+      answer.Queued 3 ∷ answer.Closed 4 Succeeded ∷ answer.Closed 5 Complete ∷ answer.Closed 6 Complete
+      ∷ answer.Closed 7 Succeeded ∷ answer.Ended 3 8 ∷ answer.Idle ∷ [];
   blocks = filled 0 2;
   serial = filled 0 2;
 }

@@ -12,15 +12,15 @@ abbrev unit : Opening
 unit = unit_of ha.None 16
 
 abbrev repeated_tag_script : List Move
-repeated_tag_script = no_read 5 A 0 1 ∷ no_read 6 A 0 1 ∷ next ∷ next ∷ no_read 8 A 0 1 ∷ next ∷ next ∷ []
+repeated_tag_script = no_read 8 A 0 1 ∷ no_read 9 A 0 1 ∷ next ∷ next ∷ no_read 11 A 0 1 ∷ next ∷ next ∷ []
 
 repeated_tag : shown unit repeated_tag_script 2 ≡ record {
   events =
-      event.Came 1 A 5 ∷ event.Enter 1 ∷ event.Came 2 A 6 ∷ event.Turned 2 ∷ event.Ended 1 ∷ event.Came 3 A 8
-      ∷ event.Enter 3 ∷ event.Ended 3 ∷ [];
+      event.Came 3 A 8 ∷ event.Enter 3 ∷ event.Came 4 A 9 ∷ event.Turned 4 ∷ event.Ended 3 ∷ event.Came 5 A 11
+      ∷ event.Enter 5 ∷ event.Ended 5 ∷ [];
   replies = check 0xb 0x4e 0 None ∷ good [] ∷ good [] ∷ [];
   answers =
-      answer.Queued 1 ∷ answer.Turned 2 ∷ answer.Ended 1 5 ∷ answer.Idle ∷ answer.Queued 3 ∷ answer.Ended 3 8
+      answer.Queued 3 ∷ answer.Turned 4 ∷ answer.Ended 3 8 ∷ answer.Idle ∷ answer.Queued 5 ∷ answer.Ended 5 11
       ∷ answer.Idle ∷ [];
   blocks = filled 0 2;
   serial = filled 0 2;

@@ -16,20 +16,20 @@ unit = unit_of ha.Serialise 16
 
 abbrev reset_after_finish_script : List Move
 reset_after_finish_script =
-    write 7 B 1 2 0 6 0x77 ∷ deliver A ∷ step 1 1 ∷ deliver B ∷ step 1 6 ∷ asks 12 A 0 LunReset ∷ deliver B
-    ∷ deliver A ∷ no_read 15 A 0 2 ∷ next ∷ next ∷ []
+    write 10 B 1 2 0 6 0x77 ∷ deliver A ∷ step 3 1 ∷ deliver B ∷ step 3 6 ∷ asks 15 A 0 LunReset ∷ deliver B
+    ∷ deliver A ∷ no_read 18 A 0 2 ∷ next ∷ next ∷ []
 
 reset_after_finish : shown unit reset_after_finish_script 7 ≡ record {
   events =
-      event.Came 1 B 7 ∷ event.Deliver A kind.Ask 1 ∷ event.Enter 1 ∷ event.Granted 1
-      ∷ event.Deliver B kind.Grant 1 ∷ event.Moved 1 6 ∷ event.Ended 1 ∷ event.Came 2 A 12 ∷ event.Asked 2
-      ∷ event.Deliver B kind.Stop 1 ∷ event.Deliver A kind.Finish 1 ∷ event.Closed 2 Complete
-      ∷ event.Came 3 A 15 ∷ event.Enter 3 ∷ event.Ended 3 ∷ [];
+      event.Came 3 B 10 ∷ event.Deliver A kind.Ask 3 ∷ event.Enter 3 ∷ event.Granted 3
+      ∷ event.Deliver B kind.Grant 3 ∷ event.Moved 3 6 ∷ event.Ended 3 ∷ event.Came 4 A 15 ∷ event.Asked 4
+      ∷ event.Deliver B kind.Stop 3 ∷ event.Deliver A kind.Finish 3 ∷ event.Closed 4 Complete
+      ∷ event.Came 5 A 18 ∷ event.Enter 5 ∷ event.Ended 5 ∷ [];
   replies = good [] ∷ good [] ∷ [];
   answers =
-      answer.Sent 1 ∷ answer.Delivered kind.Ask 1 ∷ answer.Moved 1 ∷ answer.Delivered kind.Grant 1
-      ∷ answer.Ended 1 7 ∷ answer.Open 2 ∷ answer.Delivered kind.Stop 1 ∷ answer.Delivered kind.Finish 1
-      ∷ answer.Queued 3 ∷ answer.Ended 3 15 ∷ answer.Idle ∷ [];
+      answer.Sent 3 ∷ answer.Delivered kind.Ask 3 ∷ answer.Moved 3 ∷ answer.Delivered kind.Grant 3
+      ∷ answer.Ended 3 10 ∷ answer.Open 4 ∷ answer.Delivered kind.Stop 3 ∷ answer.Delivered kind.Finish 3
+      ∷ answer.Queued 5 ∷ answer.Ended 5 18 ∷ answer.Idle ∷ [];
   blocks = filled 0x77 6 ++ filled 0 1;
   serial = filled 0x77 6 ++ filled 0 1;
 }

@@ -13,7 +13,7 @@ use Rattle.ct_machine.specs.Runs.{Move}
 use Rattle.ct_machine.proofs.Samples.Parts.{machine, unit_of, write, asks, step, deliver, next, shown, filled}
 
 abbrev unit : Opening
-unit = record (unit_of ha.Serialise 16) { room = record { commands = 1; functions = 65; pieces = 6 } }
+unit = record (unit_of ha.Serialise 16) { room = record { commands = 3; functions = 65; pieces = 6 } }
 
 -- so many works, by number or line from the first on, each in some way
 abbrev each_from : {A : Type 0} → ℕ → ℕ → (ℕ → List A) → List A
@@ -22,21 +22,21 @@ each_from first (suc count) parts = parts first ++ each_from (first + 1) count p
 
 abbrev script : List Move
 script =
-    write 7 B 1 2 0 6 0x77 ∷ deliver A ∷ step 1 1 ∷ deliver B ∷ step 1 2
-    ∷ each_from 12 65 (λ line. asks line A 0 LunReset ∷ []) ++ next ∷ next ∷ next ∷ []
+    write 10 B 1 2 0 6 0x77 ∷ deliver A ∷ step 3 1 ∷ deliver B ∷ step 3 2
+    ∷ each_from 15 65 (λ line. asks line A 0 LunReset ∷ []) ++ next ∷ next ∷ next ∷ []
 
 sixty_five_resets : shown unit script 3 ≡ record {
   events =
-      event.Came 1 B 7 ∷ event.Deliver A kind.Ask 1 ∷ event.Enter 1 ∷ event.Granted 1 ∷ event.Deliver B kind.Grant 1 ∷ event.Moved 1 2
-      ∷ each_from 2 64 (λ number. event.Came number A (number + 10) ∷ event.Asked number ∷ [])
-      ++ event.Came 66 A 76 ∷ event.Closed 66 Rejected
-      ∷ event.Deliver B kind.Stop 1 ∷ event.Cut 1 2 (By 2) false ∷ event.Deliver A kind.Stopped 1
-      ∷ each_from 2 64 (λ number. event.Closed number Complete ∷ []);
+      event.Came 3 B 10 ∷ event.Deliver A kind.Ask 3 ∷ event.Enter 3 ∷ event.Granted 3 ∷ event.Deliver B kind.Grant 3 ∷ event.Moved 3 2
+      ∷ each_from 4 64 (λ number. event.Came number A (number + 11) ∷ event.Asked number ∷ [])
+      ++ event.Came 68 A 79 ∷ event.Closed 68 Rejected
+      ∷ event.Deliver B kind.Stop 3 ∷ event.Cut 3 2 (By 4) false ∷ event.Deliver A kind.Stopped 3
+      ∷ each_from 4 64 (λ number. event.Closed number Complete ∷ []);
   replies = [];
   answers =
-      answer.Sent 1 ∷ answer.Delivered kind.Ask 1 ∷ answer.Moved 1 ∷ answer.Delivered kind.Grant 1 ∷ answer.Moved 1
-      ∷ each_from 2 64 (λ number. answer.Open number ∷ [])
-      ++ answer.Closed 66 Rejected ∷ answer.Delivered kind.Stop 1 ∷ answer.Delivered kind.Stopped 1 ∷ answer.Idle ∷ [];
+      answer.Sent 3 ∷ answer.Delivered kind.Ask 3 ∷ answer.Moved 3 ∷ answer.Delivered kind.Grant 3 ∷ answer.Moved 3
+      ∷ each_from 4 64 (λ number. answer.Open number ∷ [])
+      ++ answer.Closed 68 Rejected ∷ answer.Delivered kind.Stop 3 ∷ answer.Delivered kind.Stopped 3 ∷ answer.Idle ∷ [];
   blocks = filled 0x77 2 ++ filled 0 1;
   serial = filled 0x77 2 ++ filled 0 1;
 }

@@ -16,15 +16,15 @@ abbrev unit : Opening
 unit = unit_of ha.Serialise 16
 
 abbrev stops_waiting_script : List Move
-stops_waiting_script = write 7 B 1 2 0 2 0x77 ∷ deliver A ∷ asks 9 A 1 ClearTaskSet ∷ deliver B ∷ next ∷ []
+stops_waiting_script = write 10 B 1 2 0 2 0x77 ∷ deliver A ∷ asks 12 A 1 ClearTaskSet ∷ deliver B ∷ next ∷ []
 
 stops_waiting : shown unit stops_waiting_script 1 ≡ record {
   events =
-      event.Came 1 B 7 ∷ event.Deliver A kind.Ask 1 ∷ event.Enter 1 ∷ event.Came 2 A 9 ∷ event.Asked 2
-      ∷ event.Cut 1 0 (By 2) false ∷ event.Closed 2 Complete ∷ event.Deliver B kind.Stop 1 ∷ [];
+      event.Came 3 B 10 ∷ event.Deliver A kind.Ask 3 ∷ event.Enter 3 ∷ event.Came 4 A 12 ∷ event.Asked 4
+      ∷ event.Cut 3 0 (By 4) false ∷ event.Closed 4 Complete ∷ event.Deliver B kind.Stop 3 ∷ [];
   replies = [];
   answers =
-      answer.Sent 1 ∷ answer.Delivered kind.Ask 1 ∷ answer.Closed 2 Complete ∷ answer.Delivered kind.Stop 1
+      answer.Sent 3 ∷ answer.Delivered kind.Ask 3 ∷ answer.Closed 4 Complete ∷ answer.Delivered kind.Stop 3
       ∷ answer.Idle ∷ [];
   blocks = filled 0 1;
   serial = filled 0 1;
@@ -34,20 +34,20 @@ stops_waiting = refl
 
 abbrev stops_on_the_way_script : List Move
 stops_on_the_way_script =
-    write 7 B 1 2 0 2 0x77 ∷ deliver A ∷ step 1 1 ∷ asks 10 B 1 (AbortTask (record { 0 = 2 })) ∷ deliver A
+    write 10 B 1 2 0 2 0x77 ∷ deliver A ∷ step 3 1 ∷ asks 13 B 1 (AbortTask (record { 0 = 2 })) ∷ deliver A
     ∷ deliver B ∷ deliver B ∷ deliver A ∷ deliver B ∷ next ∷ []
 
 stops_on_the_way : shown unit stops_on_the_way_script 1 ≡ record {
   events =
-      event.Came 1 B 7 ∷ event.Deliver A kind.Ask 1 ∷ event.Enter 1 ∷ event.Granted 1 ∷ event.Came 2 B 10
-      ∷ event.Deliver A kind.Function 2 ∷ event.Asked 2 ∷ event.Deliver B kind.Grant 1
-      ∷ event.Deliver B kind.Stop 1 ∷ event.Cut 1 0 (By 2) false ∷ event.Deliver A kind.Stopped 1
-      ∷ event.Closed 2 Complete ∷ event.Deliver B kind.Response 2 ∷ [];
+      event.Came 3 B 10 ∷ event.Deliver A kind.Ask 3 ∷ event.Enter 3 ∷ event.Granted 3 ∷ event.Came 4 B 13
+      ∷ event.Deliver A kind.Function 4 ∷ event.Asked 4 ∷ event.Deliver B kind.Grant 3
+      ∷ event.Deliver B kind.Stop 3 ∷ event.Cut 3 0 (By 4) false ∷ event.Deliver A kind.Stopped 3
+      ∷ event.Closed 4 Complete ∷ event.Deliver B kind.Response 4 ∷ [];
   replies = [];
   answers =
-      answer.Sent 1 ∷ answer.Delivered kind.Ask 1 ∷ answer.Moved 1 ∷ answer.Sent 2
-      ∷ answer.Delivered kind.Function 2 ∷ answer.Delivered kind.Grant 1 ∷ answer.Delivered kind.Stop 1
-      ∷ answer.Delivered kind.Stopped 1 ∷ answer.Delivered kind.Response 2 ∷ answer.Idle ∷ [];
+      answer.Sent 3 ∷ answer.Delivered kind.Ask 3 ∷ answer.Moved 3 ∷ answer.Sent 4
+      ∷ answer.Delivered kind.Function 4 ∷ answer.Delivered kind.Grant 3 ∷ answer.Delivered kind.Stop 3
+      ∷ answer.Delivered kind.Stopped 3 ∷ answer.Delivered kind.Response 4 ∷ answer.Idle ∷ [];
   blocks = filled 0 1;
   serial = filled 0 1;
 }
@@ -55,16 +55,16 @@ unfolding machine
 stops_on_the_way = refl
 
 abbrev turned_at_b_script : List Move
-turned_at_b_script = write 7 B 1 2 0 2 0x77 ∷ write 8 B 1 2 2 2 0x78 ∷ next ∷ next ∷ next ∷ next ∷ []
+turned_at_b_script = write 10 B 1 2 0 2 0x77 ∷ write 11 B 1 2 2 2 0x78 ∷ next ∷ next ∷ next ∷ next ∷ []
 
 turned_at_b : shown unit turned_at_b_script 1 ≡ record {
   events =
-      event.Came 1 B 7 ∷ event.Came 2 B 8 ∷ event.Deliver A kind.Ask 1 ∷ event.Enter 1
-      ∷ event.Deliver A kind.Ask 2 ∷ event.Turned 2 ∷ event.Deliver B kind.Reply 2 ∷ event.Granted 1 ∷ [];
+      event.Came 3 B 10 ∷ event.Came 4 B 11 ∷ event.Deliver A kind.Ask 3 ∷ event.Enter 3
+      ∷ event.Deliver A kind.Ask 4 ∷ event.Turned 4 ∷ event.Deliver B kind.Reply 4 ∷ event.Granted 3 ∷ [];
   replies = check 0xb 0x4e 0 None ∷ [];
   answers =
-      answer.Sent 1 ∷ answer.Sent 2 ∷ answer.Delivered kind.Ask 1 ∷ answer.Delivered kind.Ask 2
-      ∷ answer.Delivered kind.Reply 2 ∷ answer.Moved 1 ∷ [];
+      answer.Sent 3 ∷ answer.Sent 4 ∷ answer.Delivered kind.Ask 3 ∷ answer.Delivered kind.Ask 4
+      ∷ answer.Delivered kind.Reply 4 ∷ answer.Moved 3 ∷ [];
   blocks = filled 0 1;
   serial = filled 0 1;
 }

@@ -14,18 +14,18 @@ unit = unit_of ha.Transfer 16
 
 abbrev transfer_script : List Move
 transfer_script =
-    write 7 A 0 2 0 1 0x88 ∷ next ∷ next ∷ read 9 B 1 2 0 1 ∷ deliver B ∷ deliver A ∷ step 2 1 ∷ deliver B
+    write 10 A 0 2 0 1 0x88 ∷ next ∷ next ∷ read 12 B 1 2 0 1 ∷ deliver B ∷ deliver A ∷ step 4 1 ∷ deliver B
     ∷ next ∷ []
 
 transfer : shown unit transfer_script 2 ≡ record {
   events =
-      event.Came 1 A 7 ∷ event.Enter 1 ∷ event.Begun 1 ∷ event.Moved 1 1 ∷ event.Ended 1 ∷ event.Came 2 B 9
-      ∷ event.Deliver A kind.Ask 2 ∷ event.Enter 2 ∷ event.Begun 2 ∷ event.Moved 2 1 ∷ event.Ended 2
-      ∷ event.Deliver B kind.Reply 2 ∷ [];
+      event.Came 3 A 10 ∷ event.Enter 3 ∷ event.Begun 3 ∷ event.Moved 3 1 ∷ event.Ended 3 ∷ event.Came 4 B 12
+      ∷ event.Deliver A kind.Ask 4 ∷ event.Enter 4 ∷ event.Begun 4 ∷ event.Moved 4 1 ∷ event.Ended 4
+      ∷ event.Deliver B kind.Reply 4 ∷ [];
   replies = good [] ∷ good (bytes 0x88 1) ∷ [];
   answers =
-      answer.Queued 1 ∷ answer.Ended 1 7 ∷ answer.Idle ∷ answer.Sent 2 ∷ answer.Nothing
-      ∷ answer.Delivered kind.Ask 2 ∷ answer.Ended 2 9 ∷ answer.Delivered kind.Reply 2 ∷ answer.Idle ∷ [];
+      answer.Queued 3 ∷ answer.Ended 3 10 ∷ answer.Idle ∷ answer.Sent 4 ∷ answer.Nothing
+      ∷ answer.Delivered kind.Ask 4 ∷ answer.Ended 4 12 ∷ answer.Delivered kind.Reply 4 ∷ answer.Idle ∷ [];
   blocks = filled 0x88 1 ++ filled 0 1;
   serial = filled 0x88 1 ++ filled 0 1;
 }

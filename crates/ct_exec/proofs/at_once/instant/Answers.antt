@@ -10,5 +10,5 @@ push_data-requires c =
 pub returns : goal.returns
 returns c =
     λ (disk : List (List ℕ)) size.
-    rw (c.moved_reply.ensures, c.push_data.ensures, c.open.ensures, c.requires.empty)
+    rw (c.moved_reply.ensures, c.change.ensures, c.push_data.ensures, c.open.ensures, c.requires.empty)
     (done_at_once c.args.c.now c.args.command.now c.args.blocks disk c.requires.unrefused c.requires.unplanned size)

@@ -1,0 +1,3 @@
+pub mod Pages
+pub mod Descriptors
+pub mod Sharing

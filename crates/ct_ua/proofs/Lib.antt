@@ -1,0 +1,3 @@
+pub mod Raising
+pub mod Codes
+pub mod Nexuses
