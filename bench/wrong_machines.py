@@ -122,7 +122,8 @@ MACHINES = [
         "IsLawful",
         "differ (ap begins_with_zero (law.blocks (record { each = "
         + "(refl, " * (ON_ONE_NODE + 8) + "tt" + ")" * (ON_ONE_NODE + 8) + "; last = refl }) refl))",
-        "(replay unit journal).blocks ≡ (serial_disk unit journal).blocks"),
+        "begins_with_zero (replay unit journal).blocks ∷ begins_with_zero (serial_disk unit journal).blocks ∷ []"
+        " ≡ false ∷ false ∷ []"),
     # a function awaits no granted command
     Machine(
         "closes-beside-a-grant", "Events",
@@ -138,7 +139,8 @@ MACHINES = [
         "stepping_at Granted task count fault s = moved task s (moving (There 0 []) task count fault s)",
         "Serialise", GRANTED + ["step 3 2"],
         "IsByCells", "differ (ap begins_with_zero law.blocks)",
-        "(replay unit journal).blocks ≡ (beside unit 0 journal).blocks"),
+        "begins_with_zero (replay unit journal).blocks ∷ begins_with_zero (beside unit 0 journal).blocks ∷ []"
+        " ≡ true ∷ true ∷ []"),
     # a command that an abort cuts leaves without an event
     Machine(
         "cut-without-entry", "Events",
