@@ -1,6 +1,6 @@
 //! Parameter lists of UNMAP.
 
-use ct_param::{ListFault, UnmapDescriptor, read_unmap};
+use ct_param::{ListFault, UnmapDescriptor, apart, read_unmap};
 use std::process::Abort;
 
 fn blocks_of(lba: u64, count: u32) -> UnmapDescriptor {
@@ -64,4 +64,18 @@ fn each_list_is_refused_where_it_should_be(rt: HostRuntime) {
     refuses(&rt, shared, ListFault::BadField);
     let wraps = b"\0\x16\0\x10\0\0\0\0\xff\xff\xff\xff\xff\xff\xff\xff\0\0\0\x02\0\0\0\0";
     refuses(&rt, wraps, ListFault::OutOfRange);
+}
+
+#[test]
+fn faults_have_their_codes(rt: HostRuntime) {
+    apart();
+    let codes = [
+        (ListFault::BadLength, 0x1a),
+        (ListFault::BadField, 0x26),
+        (ListFault::OutOfRange, 0x21),
+    ];
+    for (fault, asc) in codes {
+        let code = fault.sense_code();
+        assert_eq!(rt; (code.asc, code.ascq), (asc, 0), "of {fault:?}");
+    }
 }
