@@ -14,19 +14,24 @@ ROOT = os.path.dirname(os.path.dirname(os.path.abspath(__file__)))
 SPECS = ["States", "Events", "Acts", "Runs", "Serial", "Laws"]
 
 HEAD = """-- A run, and what the law says of it.
-use Rattle.std.proofs.Common.{◌≡◌, ℕ, List, [], ◌∷◌, Bool, true, false, ◌==◌, slice_index_or, ap, sym, refl}
+use Rattle.std.proofs.Common.{◌≡◌, ℕ, List, [], ◌∷◌, Bool, true, false, not, ◌==◌, Option, Some, slice_index_or, ap, sym, refl}
 use Rattle.ct_word.specs.declared.names.Ha.TheVariants as ha
 use Rattle.ct_word.specs.declared.names.Node.TheVariants.{A, B}
 use Rattle.ct_cdb.specs.declared.op.Attr2.TheVariants.{Head}
 use Rattle.ct_tmf.specs.declared.function.Function.TheVariants.{AbortTask, LunReset}
+use Rattle.ct_book.specs.declared.event.Event.{Event}
+use Rattle.ct_book.specs.declared.event.Event.TheVariants as event
 use Rattle.ct_book.specs.declared.event.Logged.{Logged}
+use Rattle.ct_book.specs.declared.work.Work.TheVariants as work
+use Rattle.ct_book.specs.Journals.{KeptWork}
 use Rattle.ct_machine.specs.declared.act.Opening.{Opening}
 use Rattle.ct_machine.specs.Runs.{Move, replay}
 use Rattle.ct_machine.specs.Serial.{serial_disk}
-use Rattle.ct_machine.specs.Laws.{has, is_begin, is_entry, comes_first, made_by, beside}
-use Rattle.ct_machine.specs.Laws.{IsOrderly, RecordsPrefix, EachOnce, IsByCells, IsLawful}
+use Rattle.ct_machine.specs.Laws.{has, is_asked, is_begin, is_entry, comes_first, made_by, beside}
+use Rattle.ct_machine.specs.Laws.{IsOrderly, RecordsPrefix, EachOnce, IsByCells, MakesPlans, IsTimely, IsLawful, due_of}
+use Rattle.ct_machine.specs.Laws.{IsTyped as IsTypedJournal}
 use Rattle.ct_machine.proofs.Samples.Parts.{machine, unit_of, command, comes, write10, write, read, bytes}
-use Rattle.ct_machine.proofs.Samples.Parts.{asks, step, deliver, played}
+use Rattle.ct_machine.proofs.Samples.Parts.{asks, step, deliver, next, preempted, aborts, no_read, played}
 
 abbrev unit : Opening
 unit = unit_of ha.MODE 16
@@ -43,6 +48,21 @@ differ e = cc
 abbrev begins_with_zero : List (List ℕ) → Bool
 begins_with_zero blocks = slice_index_or (slice_index_or blocks 0 []) 0 0 == 0
 
+abbrev IsTyped : Opening → List Logged → Type 0
+IsTyped o journal = IsTypedJournal journal
+
+abbrev is_asked_for : Option KeptWork → Bool
+is_asked_for (Some (work.Ask ask)) = true
+is_asked_for _ = false
+
+abbrev is_cut : ℕ → Event → Bool
+is_cut wanted (event.Cut number puts why told) = number == wanted
+is_cut wanted _ = false
+
+abbrev is_silent : Event → Bool
+is_silent (event.Cut number puts why told) = not told
+is_silent _ = false
+
 """
 
 
@@ -58,28 +78,37 @@ class Machine:
         return HEAD.replace("MODE", self.mode).replace("SCRIPT", " ∷ ".join(self.script))
 
     def refutation(self):
-        refuted = f"refuted : {self.clause} unit journal → ⊥\nunfolding machine beside\nrefuted law = {self.proof}\n"
+        refuted = f"refuted : {self.clause} unit journal → ⊥\nunfolding machine beside due_of\nrefuted law = {self.proof}\n"
         return self.head() + refuted
 
     def keeping(self):
-        return f"{self.head()}kept : {self.kept}\nunfolding machine beside\nkept = refl\n"
+        return f"{self.head()}kept : {self.kept}\nunfolding machine beside due_of\nkept = refl\n"
 
 
 # the events of the two commands that take the unit attentions, on one node and on two
 ON_ONE_NODE, ON_TWO_NODES = 6, 8
 
 
-def at(event, rest):
+def at(event, rest, law="law"):
     """What the law says of an event, counted from 0."""
-    return "law" + ".1" * event + ".0" + rest
+    return law + ".1" * event + ".0" + rest
 
 
 def false_is_true(term):
     return f"differ (sym ({term}))"
 
 
+def false_is_true_of(test, term):
+    """A test passes what an event is said to be, and not the event."""
+    return false_is_true(f"ap ({test}) ({term})")
+
+
 ABORT = "asks 10 A 0 (AbortTask (record { 0 = 1 }))"
 GRANTED = ["write 10 B 1 2 0 6 0x77", "deliver A", "step 3 1"]
+# two commands of a nexus that is removed wait, and one of another between them
+ABORTED = ["preempted (aborts 14 ∷ read 15 A 1 2 0 1 ∷ no_read 16 A 0 6 ∷ read 17 A 1 3 1 1 ∷ next ∷ [])"]
+# the events behind which the first of them is cut
+BEFORE_THE_CUTS = ON_ONE_NODE + 18
 CUT = "cut_at (By by) _ task s = leaves task.no (record s { functions = noted by task.no s.functions })"
 
 MACHINES = [
@@ -151,6 +180,62 @@ MACHINES = [
         "EachOnce",
         false_is_true("law.all (record { tasks = refl; functions = refl; to_a = refl; to_b = refl }) 3 refl"),
         "has (is_entry 3) journal ≡ true"),
+    # a read ends behind its first piece
+    Machine(
+        "read-ends-early", "Acts",
+        "(moved_to progress.difference (nat_le (length plan) done')",
+        "(moved_to progress.difference (nat_le 1 done')",
+        "None", ["read 8 A 0 1 0 8", "step 3 1"],
+        "MakesPlans", false_is_true_of("λ (n : ℕ). n == 8", at(ON_ONE_NODE + 4, " refl refl _ refl")),
+        "has (is_entry 3) journal ≡ false"),
+    # a command that ends at once is answered as a function is
+    Machine(
+        "command-is-closed", "Acts",
+        "followed (replies (event.Ended task.no) execution.reply s) (λ ended",
+        "followed (says (event.Closed task.no Complete) s) (λ ended",
+        "None", ["no_read 8 A 0 1", "step 3 1"],
+        "IsTyped", false_is_true_of("is_asked_for", at(4, ".1.0")),
+        "has (is_entry 3) journal ≡ true"),
+    # an abort says that another work cut the command, which never came
+    Machine(
+        "cut-by-nobody", "Acts",
+        "says (event.Cut task.no (puts_of task s) (By by) (is_told s ask task)) s",
+        "says (event.Cut task.no (puts_of task s) (By 99) (is_told s ask task)) s",
+        "None", ["read 8 A 0 1 0 2", ABORT],
+        "IsTyped", false_is_true(at(ON_ONE_NODE + 4, ".1")),
+        "has (is_cut 3) journal ≡ true"),
+    # a function is answered that was never taken up
+    Machine(
+        "closed-unasked", "Acts",
+        "else taking_up number ask s",
+        "else says (event.Closed number Complete) s",
+        "None", [ABORT],
+        "IsTyped", false_is_true(at(ON_ONE_NODE + 1, ".1.1")),
+        "comes_first (is_asked 3) (is_entry 3) journal ≡ true"),
+    # PREEMPT AND ABORT cuts the commands from the end of the queue
+    Machine(
+        "cuts-from-the-end", "Acts",
+        "followed (clearing by cleared (task_of number s.tasks) s) (clearing_all by cleared numbers)",
+        "followed (clearing_all by cleared numbers s) (λ cut. clearing by cleared (task_of number cut.tasks) cut)",
+        "None", ABORTED, "IsTimely",
+        false_is_true_of("is_cut 7", at(BEFORE_THE_CUTS, "", "law.each")),
+        "comes_first (is_entry 7) (is_entry 9) journal ≡ true"),
+    # it cuts the waiting commands of a nexus that it didn't remove
+    Machine(
+        "cuts-another-nexus", "Events",
+        "is_cleared cleared task = is_waiting task.stage && contains cleared task.command.nexus",
+        "is_cleared cleared task = is_waiting task.stage && contains cleared (record { port = 0; init = 1 })",
+        "None", ABORTED, "IsTimely",
+        false_is_true_of("is_cut 9", at(BEFORE_THE_CUTS + 1, "", "law.each")),
+        "has (is_entry 8) journal ≡ false"),
+    # it says that the initiators are told, though TAS is 0
+    Machine(
+        "tells-without-tas", "Acts",
+        "says (event.Cut task.no 0 (By by) (tells_aborts s.control)) s",
+        "says (event.Cut task.no 0 (By by) true) s",
+        "None", ABORTED, "IsTimely",
+        false_is_true_of("is_silent", at(BEFORE_THE_CUTS, "", "law.each")),
+        "has is_silent journal ≡ true"),
 ]
 
 

@@ -19,17 +19,17 @@ impl Op {
             | Op::ReadCapacity16 { .. }
             | Op::Read { .. }
             | Op::Write { .. }
-            | Op::SynchronizeCache { .. }
-            | Op::StartStopUnit { .. }
-            | Op::ModeSelect { .. }
-            | Op::ModeSense { .. } => true,
-            Op::WriteAndVerify { .. }
+            | Op::WriteAndVerify { .. }
             | Op::Verify { .. }
             | Op::CompareAndWrite { .. }
             | Op::WriteSame { .. }
-            | Op::Unmap { .. }
+            | Op::SynchronizeCache { .. }
+            | Op::StartStopUnit { .. }
+            | Op::ModeSelect { .. }
+            | Op::ModeSense { .. }
             | Op::PersistentReserveIn { .. }
-            | Op::PersistentReserveOut { .. } => false,
+            | Op::PersistentReserveOut { .. } => true,
+            Op::Unmap { .. } => false,
         }
     }
 }

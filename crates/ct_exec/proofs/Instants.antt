@@ -22,9 +22,9 @@ use Rattle.ct_book.specs.declared.work.Command.{Command}
 use Rattle.ct_book.specs.Works.{profile_in}
 use Rattle.ct_exec.specs.Controls.{ControlState, Disk}
 use Rattle.ct_exec.specs.Data.{data_of_unit}
-use Rattle.ct_exec.specs.Changes.{changed_control}
+use Rattle.ct_exec.specs.Changes.{changed_control, cleared_by}
 use Rattle.ct_exec.specs.Executions.{Execution, good, check_condition, refusal_of, refusal_by, reply_moved}
-use Rattle.ct_exec.specs.Executions.{unbuilt, reported, stopped, unsaved, short_of_data, faulty_list, out_of_range}
+use Rattle.ct_exec.specs.Executions.{unbuilt, reported, reserved, stopped, unsaved, short_of_data, faulty_list, out_of_range}
 use Rattle.ct_exec.specs.Executions.{execute, executed, plan_in}
 use Rattle.ct_exec.proofs.Unrefused.{first_parts}
 use Rattle.ct_exec.proofs.UnitData.{moving_silent}
@@ -37,7 +37,8 @@ unrefused_performed control blocks nexus out (Err fault) profile h = absurd (cc)
 unrefused_performed control blocks nexus out (Ok cdb) profile h =
     let built = first_parts (unbuilt control cdb.op) _ h in
     let told = first_parts (reported control nexus profile.reports_attention) _ built.1 in
-    let ready = first_parts (stopped control profile) _ told.1 in
+    let allowed = first_parts (reserved control nexus profile.class) _ told.1 in
+    let ready = first_parts (stopped control profile) _ allowed.1 in
     let current = first_parts (unsaved control cdb.op) _ ready.1 in
     let long = first_parts (short_of_data control (length out) profile) _ current.1 in
     let listed = first_parts (faulty_list control out cdb.op) _ long.1 in
@@ -56,22 +57,24 @@ unrefused_performed control blocks nexus out (Ok cdb) profile h =
 abbrev pub begun : Disk → Command → Cells
 begun disk c = record { blocks = disk.blocks; got = data_of_unit disk.control (length disk.blocks) c }
 
--- the disk and the reply of a command whose operations came so far, with the control behind it
-abbrev pub operated_by : Disk → ControlState → Progress → Execution
-operated_by disk changed progress = record {
+-- the disk and the reply of a command whose operations came so far, with the control behind it, and the nexuses whose
+-- commands it clears
+abbrev pub operated_by : Disk → ControlState → List Bool → Progress → Execution
+operated_by disk changed cleared progress = record {
   disk = record { control = changed; blocks = progress.cells.blocks };
   reply = reply_moved disk.control progress.difference progress.cells.got;
-  cleared = no_nexuses;
+  cleared = cleared;
 }
 
 pub whole_execution : (disk : Disk) (c : Command) → refusal_of disk.control (length disk.blocks) c ≡ None
     → execute disk c
-    ≡ operated_by disk (changed_control disk.control c)
+    ≡ operated_by disk (changed_control disk.control c) (cleared_by disk.control c)
     (performed c.out (plan_in (length disk.blocks) c) (begun disk c))
 unfolding execute refusal_of plan_in plan_of
 whole_execution disk c unrefused =
     let profile : Profile = profile_in (length disk.blocks) c in
     let changed : ControlState = changed_control disk.control c in
+    let clears : List Bool = cleared_by disk.control c in
     let yes : is_performed (length c.out) (length disk.blocks) profile ≡ true =
     unrefused_performed disk.control (length disk.blocks) c.nexus c.out (cdb_of c.cdb) profile unrefused in
     let inside =
@@ -89,15 +92,15 @@ whole_execution disk c unrefused =
             (effect c.out profile.ranges profile.phases (begun disk c)).cells.blocks;
       };
       reply = reply_moved disk.control d (effect c.out profile.ranges profile.phases (begun disk c)).cells.got;
-      cleared = no_nexuses;
+      cleared = clears;
     }) (sym ends.difference)
     ∙ ap (λ (cells : Cells). record {
       disk = record { control = changed; blocks = cells.blocks };
       reply = reply_moved disk.control
           (performed c.out (planned profile.phases profile.ranges) (begun disk c)).difference cells.got;
-      cleared = no_nexuses;
+      cleared = clears;
     }) (sym ends.cells)
-    ∙ ap (λ (operations : List BlockOp). operated_by disk changed (performed c.out operations (begun disk c)))
+    ∙ ap (λ (operations : List BlockOp). operated_by disk changed clears (performed c.out operations (begun disk c)))
     planned_so
 
 -- a command that moves blocks returns no data but theirs
@@ -113,6 +116,12 @@ pub changed_moving : (disk : Disk) (c : Command) (operation : BlockOp) (others :
 changed_moving disk c operation others planned_is =
     (moving_silent disk.control (length disk.blocks) c operation others planned_is).changed
 
+-- and clears no nexus
+pub cleared_moving : (disk : Disk) (c : Command) (operation : BlockOp) (others : List BlockOp)
+    → plan_in (length disk.blocks) c ≡ operation ∷ others → cleared_by disk.control c ≡ no_nexuses
+cleared_moving disk c operation others planned_is =
+    (moving_silent disk.control (length disk.blocks) c operation others planned_is).cleared
+
 -- a command that nothing refuses and that has no block operation leaves the blocks, and returns the data of the unit
 pub done_at_once : (control : ControlState) (command : Command) (count : ℕ) (blocks : List (List ℕ))
     → refusal_of control count command ≡ None → plan_in count command ≡ [] → length blocks ≡ count
@@ -120,7 +129,7 @@ pub done_at_once : (control : ControlState) (command : Command) (count : ℕ) (b
     ≡ record {
       disk = record { control = changed_control control command; blocks = blocks };
       reply = good (data_of_unit control count command);
-      cleared = no_nexuses;
+      cleared = cleared_by control command;
     }
 done_at_once control command count blocks unrefused unplanned size =
     let disk : Disk = record { control = control; blocks = blocks } in
@@ -130,9 +139,9 @@ done_at_once control command count blocks unrefused unplanned size =
     subst (λ (n : ℕ). plan_in n command ≡ []) (sym size) unplanned in
     whole_execution disk command refused
     ∙ ap (λ (operations : List BlockOp). operated_by disk (changed_control control command)
-    (performed command.out operations (begun disk command))) planned_is
+    (cleared_by control command) (performed command.out operations (begun disk command))) planned_is
     ∙ ap (λ (n : ℕ). record {
       disk = record { control = changed_control control command; blocks = blocks };
       reply = good (data_of_unit control n command);
-      cleared = no_nexuses;
+      cleared = cleared_by control command;
     }) size

@@ -1,3 +1,5 @@
+pub mod ActionFaults
+pub mod Clears
 pub mod Unrefused
 pub mod UnitData
 pub mod Instants

@@ -1,8 +1,9 @@
 -- What a command has to do with the unit itself: which commands return data of it or change it, and how many bytes these
 -- data are.
-use Rattle.std.proofs.Common.{◌≡◌, ◌≤◌, ℕ, min, Bool, true, false, cond, List, [], ◌∷◌, length, Result, Ok, Err, ◌⊎◌, inl, Option}
-use Rattle.std.proofs.Common.{inr, None, refl, ap, arith}
+use Rattle.std.proofs.Common.{◌≡◌, ◌≤◌, ℕ, Bool, true, false, cond, List, [], ◌∷◌, length, Result, Ok, Err, ◌⊎◌, inl, Option}
+use Rattle.std.proofs.Common.{inr, refl, sym, subst, ap, arith}
 use Rattle.std.proofs.lemmas.List.{length-take}
+use Rattle.ct_word.specs.Nexuses.{no_nexuses}
 use Rattle.ct_word.specs.declared.names.Code.{Code}
 use Rattle.ct_word.specs.declared.names.Nexus.{Nexus}
 use Rattle.ct_cdb.specs.declared.op.Op.{Op}
@@ -14,27 +15,26 @@ use Rattle.ct_cdb.specs.declared.profile.Profile.{Profile}
 use Rattle.ct_cdb.specs.Built.{is_built}
 use Rattle.ct_cdb.specs.Forms.{cdb_of}
 use Rattle.ct_cdb.specs.Profiles.{profile_of, profile_by, built_row, is_performed, room_of}
-use Rattle.ct_inq.proofs.Sizes.{length-inquiry, length-capacity_10, length-capacity_16, length-luns_most}
-use Rattle.ct_pages.proofs.Sizes.{length-data}
 use Rattle.ct_plan.specs.declared.operation.BlockOp.{BlockOp}
 use Rattle.ct_plan.specs.Plans.{planned, plan_of}
-use Rattle.ct_ua.specs.Attentions.{first_code}
 use Rattle.ct_book.specs.declared.work.Command.{Command}
 use Rattle.ct_book.specs.Works.{profile_in, room_for}
 use Rattle.ct_exec.specs.Controls.{ControlState}
-use Rattle.ct_exec.specs.Changes.{changed_by, decoded_change, changed_control}
+use Rattle.ct_exec.specs.Changes.{changed_by, decoded_change, changed_control, cleared_by_op, decoded_cleared, cleared_by}
 use Rattle.ct_exec.specs.Data.{sense_data, data_by, decoded_data, data_of_unit}
-use Rattle.ct_exec.specs.Executions.{refusal_of, refusal_by, plan_in}
+use Rattle.ct_exec.specs.Executions.{plan_in}
 
--- a command that returns no data of the unit, and leaves its control
-pub record IsSilent (bytes : List ℕ) (control after : ControlState) : Type 0 where
+-- a command that returns no data of the unit, leaves its control, and clears no nexus
+pub record IsSilent (bytes : List ℕ) (control after : ControlState) (set : List Bool) : Type 0 where
   pub told : bytes ≡ []
   pub changed : after ≡ control
+  pub cleared : set ≡ no_nexuses
 
 -- a command either has no phase or is silent; the last clause is tried for each command that has none
 still_or_silent : (control : ControlState) (blocks : ℕ) (nexus : Nexus) (visible : ℕ) (out : List ℕ) (o : Op)
     → ((profile_of o out blocks).phases ≡ [])
     ⊎ IsSilent (data_by control blocks nexus visible o) control (changed_by control nexus out o)
+    (cleared_by_op control nexus out o)
 still_or_silent control blocks nexus visible out (op.RequestSense descriptor allocation) = inl refl
 still_or_silent control blocks nexus visible out (op.Inquiry page allocation) = inl refl
 still_or_silent control blocks nexus visible out (op.ReportLuns select allocation) = inl refl
@@ -43,7 +43,9 @@ still_or_silent control blocks nexus visible out (op.ReadCapacity16 allocation) 
 still_or_silent control blocks nexus visible out (op.StartStopUnit start) = inl refl
 still_or_silent control blocks nexus visible out (op.ModeSelect form list) = inl refl
 still_or_silent control blocks nexus visible out (op.ModeSense form no_descriptor values page allocation) = inl refl
-still_or_silent control blocks nexus visible out _ = inr (record { told = refl; changed = refl })
+still_or_silent control blocks nexus visible out (op.PersistentReserveIn asked allocation) = inl refl
+still_or_silent control blocks nexus visible out (op.PersistentReserveOut asked list) = inl refl
+still_or_silent control blocks nexus visible out _ = inr (record { told = refl; changed = refl; cleared = refl })
 
 built_still : (built : Bool) (profile : Profile) → profile.phases ≡ [] → (built_row built profile).phases ≡ []
 built_still true profile still = still
@@ -53,12 +55,13 @@ decoded_still_or_silent : (control : ControlState) (blocks : ℕ) (nexus : Nexus
     (decoded : Result Cdb CdbFault)
     → ((profile_by decoded out blocks).phases ≡ [])
     ⊎ IsSilent (decoded_data control blocks nexus visible decoded) control (decoded_change control nexus out decoded)
+    (decoded_cleared control nexus out decoded)
 decoded_still_or_silent control blocks nexus visible out (Ok cdb) =
     elim (still_or_silent control blocks nexus visible out cdb.op) [
       | inl still ↦ inl (built_still (is_built cdb.op) (profile_of cdb.op out blocks) still)
       | inr silent ↦ inr silent
     ]
-decoded_still_or_silent control blocks nexus visible out (Err fault) = inr (record { told = refl; changed = refl })
+decoded_still_or_silent control blocks nexus visible out (Err fault) = inr (record { told = refl; changed = refl; cleared = refl })
 
 -- a command without a phase has no block operation
 pub unplanned : (out blocks : ℕ) (profile : Profile) → profile.phases ≡ [] → plan_of out blocks profile ≡ []
@@ -72,8 +75,8 @@ unplanned out blocks profile still = go (is_performed out blocks profile)
 -- a command that has block operations is silent
 pub moving_silent : (control : ControlState) (blocks : ℕ) (c : Command) (operation : BlockOp) (others : List BlockOp)
     → plan_in blocks c ≡ operation ∷ others
-    → IsSilent (data_of_unit control blocks c) control (changed_control control c)
-unfolding plan_in data_of_unit changed_control profile_in
+    → IsSilent (data_of_unit control blocks c) control (changed_control control c) (cleared_by control c)
+unfolding plan_in data_of_unit changed_control cleared_by profile_in
 moving_silent control blocks c operation others planned_is =
     elim (decoded_still_or_silent control blocks c.nexus c.visible c.out (cdb_of c.cdb)) [
       | inl still ↦
@@ -82,51 +85,23 @@ moving_silent control blocks c operation others planned_is =
       | inr silent ↦ silent
     ]
 
--- there is room for the data of a command that is built
+-- there is room for the data of each command
 
-length-sense : (condition : Option Code) (descriptor : Bool) (allocation : ℕ)
+pub length-sense : (condition : Option Code) (descriptor : Bool) (allocation : ℕ)
     → length (sense_data condition descriptor allocation)
     ≤ (profile_of (op.RequestSense descriptor allocation) [] 0).data_in
 length-sense condition true allocation = omega (arith, length-take {A = ℕ})
 length-sense condition false allocation = omega (arith, length-take {A = ℕ})
 
-data_fits : (control : ControlState) (blocks : ℕ) (nexus : Nexus) (visible : ℕ) (o : Op)
-    → length (data_by control blocks nexus visible o) ≤ (profile_of o [] 0).data_in
-data_fits control blocks nexus visible (op.RequestSense descriptor allocation) =
-    length-sense (first_code control.attentions nexus) descriptor allocation
-data_fits control blocks nexus visible (op.Inquiry page allocation) =
-    omega (arith, length-inquiry page allocation control.lun.0)
-data_fits control blocks nexus visible (op.ReportLuns select allocation) = length-luns_most select allocation visible
-data_fits control blocks nexus visible op.ReadCapacity10 = omega (arith, length-capacity_10 blocks)
-data_fits control blocks nexus visible (op.ReadCapacity16 allocation) =
-    omega (arith, length-capacity_16 blocks allocation)
-data_fits control blocks nexus visible (op.ModeSense form no_descriptor values page allocation) =
-    omega (arith, length-data control.pages blocks form no_descriptor values page allocation)
-data_fits control blocks nexus visible _ = omega arith
+-- a command that isn't built would return no data; the last clause is tried for each command
+built_room : (o : Op) → (profile_of o [] 0).data_in ≡ (built_row (is_built o) (profile_of o [] 0)).data_in
+built_room (op.Verify form true lba count) = refl
+built_room (op.Verify form false lba count) = refl
+built_room _ = refl
 
-built_fits : (built : Bool) (profile : Profile) (size : ℕ) → built ≡ true → size ≤ profile.data_in
-    → size ≤ (built_row built profile).data_in
-built_fits true profile size goes fits = fits
-built_fits false profile size goes fits = absurd (cc)
-
-built_unrefused : (control : ControlState) (blocks : ℕ) (nexus : Nexus) (out : List ℕ) (cdb : Cdb) (profile : Profile)
-    → refusal_by control blocks nexus out (Ok cdb) profile ≡ None → is_built cdb.op ≡ true
-built_unrefused control blocks nexus out cdb profile h = go (is_built cdb.op) refl
-  where
-    go : (built : Bool) → is_built cdb.op ≡ built → is_built cdb.op ≡ true
-    go true e = e
-    go false e = absurd (let told = rw e at h in cc)
-
-decoded_fits : (control : ControlState) (blocks : ℕ) (nexus : Nexus) (visible : ℕ) (decoded : Result Cdb CdbFault)
-    (out : List ℕ) (profile : Profile) → refusal_by control blocks nexus out decoded profile ≡ None
-    → length (decoded_data control blocks nexus visible decoded) ≤ room_of decoded
-decoded_fits control blocks nexus visible (Ok cdb) out profile h =
-    built_fits (is_built cdb.op) (profile_of cdb.op [] 0) (length (data_by control blocks nexus visible cdb.op))
-    (built_unrefused control blocks nexus out cdb profile h) (data_fits control blocks nexus visible cdb.op)
-decoded_fits control blocks nexus visible (Err fault) out profile h = omega arith
-
-pub data_has_room : (control : ControlState) (blocks : ℕ) (c : Command) → refusal_of control blocks c ≡ None
-    → length (data_of_unit control blocks c) ≤ room_for c.cdb
-unfolding refusal_of data_of_unit room_for
-data_has_room control blocks c unrefused =
-    decoded_fits control blocks c.nexus c.visible (cdb_of c.cdb) c.out (profile_in blocks c) unrefused
+pub row_has_room : (cdb : List ℕ) (decoded : Cdb) (room : ℕ) → cdb_of cdb ≡ Ok decoded → room_for cdb ≤ room
+    → (profile_of decoded.op [] 0).data_in ≤ room
+unfolding room_for
+row_has_room cdb decoded room is fits =
+    let here : room_of (Ok decoded) ≤ room = subst (λ (d : Result Cdb CdbFault). room_of d ≤ room) is fits in
+    subst (λ (size : ℕ). size ≤ room) (sym (built_room decoded.op)) here

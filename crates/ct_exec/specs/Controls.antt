@@ -6,15 +6,17 @@ use Rattle.ct_pages.specs.declared.pages.ModePages.{ModePages}
 use Rattle.ct_pages.specs.Pages.{default_pages}
 use Rattle.ct_ua.specs.declared.code_set.CodeSet.{CodeSet}
 use Rattle.ct_ua.specs.Attentions.{power_on_attentions}
+use Rattle.ct_resv.specs.declared.reservations.Reservations.{Reservations}
+use Rattle.ct_resv.specs.Registering.{no_reservations}
 
 -- all of a disk but its blocks: the number of the logical unit, its mode pages (SPC-4, 7.5), the unit attentions of each
--- nexus (SAM-5, 5.14), and whether the unit is started (SBC-3, START STOP UNIT); reservations come with the commands that
--- change them
+-- nexus (SAM-5, 5.14), whether the unit is started (SBC-3, START STOP UNIT), and its persistent reservations (SPC-4, 5.12)
 pub record ControlState : Type 0 where
   pub lun : LunNo
   pub pages : ModePages
   pub attentions : List CodeSet
   pub is_started : Bool
+  pub reservations : Reservations
 
 -- a disk (SBC-3, clause 4): its control and its blocks, each a list of 512 bytes
 pub record Disk : Type 0 where
@@ -37,14 +39,15 @@ tells_aborts control = control.pages.tas
 unfoldable pub closing_control : Ask → List Bool → ControlState → ControlState
 closing_control ask others control = control
 
--- a disk as it is opened: the mode pages have their default values, power came on, the unit is started, and the blocks
--- are zeros
+-- a disk as it is opened: the mode pages have their default values, power came on, the unit is started, nothing is
+-- reserved, and the blocks are zeros
 abbrev pub opening_control : LunNo → ControlState
 opening_control lun = record {
   lun = lun;
   pages = default_pages;
   attentions = power_on_attentions;
   is_started = true;
+  reservations = no_reservations;
 }
 
 abbrev pub opening_disk : LunNo → ℕ → Disk

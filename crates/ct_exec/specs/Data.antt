@@ -16,6 +16,7 @@ use Rattle.ct_sense.specs.declared.sense.SenseCode.{SenseCode}
 use Rattle.ct_sense.specs.Codes.{sense_of}
 use Rattle.ct_sense.specs.Forms.{bytes_of_sense}
 use Rattle.ct_pages.specs.Senses.{mode_data}
+use Rattle.ct_resv.specs.Reports.{reserve_in_data}
 use Rattle.ct_ua.specs.CodeSets.{sense_code_of}
 use Rattle.ct_ua.specs.Attentions.{first_code}
 use Rattle.ct_book.specs.declared.work.Command.{Command}
@@ -41,6 +42,8 @@ data_by control blocks nexus visible op.ReadCapacity10 = capacity_10_data blocks
 data_by control blocks nexus visible (op.ReadCapacity16 allocation) = capacity_16_data blocks allocation
 data_by control blocks nexus visible (op.ModeSense form no_descriptor values page allocation) =
     mode_data control.pages blocks form no_descriptor values page allocation
+data_by control blocks nexus visible (op.PersistentReserveIn asked allocation) =
+    reserve_in_data control.reservations asked allocation
 data_by control blocks nexus visible _ = []
 
 abbrev pub decoded_data : ControlState → ℕ → Nexus → ℕ → Result Cdb CdbFault → List ℕ

@@ -12,6 +12,7 @@ use Rattle.ct_cdb.specs.declared.choices.PageControl.TheVariants as page_control
 use Rattle.ct_cdb.specs.declared.op.Cdb.{Cdb}
 use Rattle.ct_cdb.specs.declared.op.CdbFault.{CdbFault}
 use Rattle.ct_cdb.specs.declared.op.CdbFault.TheVariants.{Empty, BadOperation, BadLength, BadField}
+use Rattle.ct_cdb.specs.declared.profile.Class.{Class}
 use Rattle.ct_cdb.specs.declared.profile.Profile.{Profile}
 use Rattle.ct_cdb.specs.Built.{is_built}
 use Rattle.ct_cdb.specs.Forms.{cdb_of}
@@ -28,6 +29,9 @@ use Rattle.ct_sense.specs.declared.code.TheConstants.{MISCOMPARE_DURING_VERIFY, 
 use Rattle.ct_sense.specs.Codes.{sense_of}
 use Rattle.ct_param.specs.declared.fault.ListFault.{ListFault}
 use Rattle.ct_param.specs.Faults.{sense_code_of as sense_code_of_fault}
+use Rattle.ct_resv.specs.declared.fault.ResvFault.{ResvFault}
+use Rattle.ct_resv.specs.Faults.{sense_code_of as sense_code_of_resv_fault}
+use Rattle.ct_resv.specs.Access.{is_allowed}
 use Rattle.ct_ua.specs.CodeSets.{sense_code_of}
 use Rattle.ct_ua.specs.Attentions.{first_code}
 use Rattle.ct_plan.specs.declared.operation.BlockOp.{BlockOp}
@@ -38,7 +42,8 @@ use Rattle.ct_book.specs.declared.work.Command.{Command}
 use Rattle.ct_book.specs.Works.{profile_in}
 use Rattle.ct_exec.specs.Controls.{ControlState, Disk, has_descriptors}
 use Rattle.ct_exec.specs.Modes.{list_fault}
-use Rattle.ct_exec.specs.Changes.{attention_taken, changed_control}
+use Rattle.ct_exec.specs.Reserving.{action_fault}
+use Rattle.ct_exec.specs.Changes.{attention_taken, changed_control, cleared_by}
 use Rattle.ct_exec.specs.Data.{data_of_unit}
 
 -- GOOD with these data
@@ -51,6 +56,15 @@ check_condition control code information = record {
   status = status.CheckCondition;
   sense = Some (sense_of code information);
   descriptor = has_descriptors control;
+  body = [];
+}
+
+-- RESERVATION CONFLICT, a status without sense data (SAM-5, 5.3)
+abbrev pub reservation_conflict : Reply
+reservation_conflict = record {
+  status = status.ReservationConflict;
+  sense = None;
+  descriptor = false;
   body = [];
 }
 
@@ -79,6 +93,10 @@ reported control nexus true =
     option_map (λ (condition : Code). check_condition control (sense_code_of condition) None)
     (first_code control.attentions nexus)
 reported control nexus false = None
+
+-- a persistent reservation doesn't let commands of its class through for its nexus (SPC-4, 5.12)
+abbrev pub reserved : ControlState → Nexus → Class → Option Reply
+reserved control nexus asked = if is_allowed control.reservations nexus asked then None else Some reservation_conflict
 
 -- the unit is stopped, and it needs a started one (SBC-3, START STOP UNIT)
 abbrev pub stopped : ControlState → Profile → Option Reply
@@ -121,6 +139,16 @@ abbrev pub write_protected : ControlState → Profile → Option Reply
 write_protected control profile =
     if profile.is_write && control.pages.protect then Some (check_condition control WRITE_PROTECTED None) else None
 
+-- it is a PERSISTENT RESERVE OUT whose action is refused (SPC-4, PERSISTENT RESERVE OUT)
+abbrev pub refused_action : ControlState → Option SenseCode → Reply
+refused_action control (Some code) = check_condition control code None
+refused_action control None = reservation_conflict
+
+abbrev pub faulty_action : ControlState → Nexus → List ℕ → Op → Option Reply
+faulty_action control nexus out op =
+    option_map (λ (fault : ResvFault). refused_action control (sense_code_of_resv_fault fault))
+    (action_fault control.reservations nexus out op)
+
 -- the first of some checks that refuses
 abbrev pub first_refusal : List (Option Reply) → Option Reply
 first_refusal [] = None
@@ -134,12 +162,14 @@ refusal_by control blocks nexus out (Ok cdb) profile =
     first_refusal (
     unbuilt control cdb.op
     ∷ reported control nexus profile.reports_attention
+    ∷ reserved control nexus profile.class
     ∷ stopped control profile
     ∷ unsaved control cdb.op
     ∷ short_of_data control (length out) profile
     ∷ faulty_list control out cdb.op
     ∷ out_of_range control blocks profile
     ∷ write_protected control profile
+    ∷ faulty_action control nexus out cdb.op
     ∷ [])
 
 -- the reply that refuses a command when it begins, on a disk of so many blocks, if there is one
@@ -159,8 +189,9 @@ pub record Execution : Type 0 where
   pub reply : Reply
   pub cleared : List Bool
 
--- what a command does that nothing refuses: what its phases do at once, and what it changes of the control; it returns
--- the data of the unit, or those of its blocks, and its sense data have the form that was asked for before it
+-- what a command does that nothing refuses: what its phases do at once, what it changes of the control, and whose
+-- commands it clears; it returns the data of the unit, or those of its blocks, and its sense data have the form that was
+-- asked for before it
 abbrev pub effect_of : Disk → Command → Execution
 effect_of disk command =
     let blocks = length disk.blocks in
@@ -170,7 +201,7 @@ effect_of disk command =
     record {
       disk = record { control = changed_control disk.control command; blocks = done.cells.blocks };
       reply = reply_moved disk.control done.difference done.cells.got;
-      cleared = no_nexuses;
+      cleared = cleared_by disk.control command;
     }
 
 abbrev pub executed : Option Reply → Disk → Command → Execution

@@ -12,7 +12,9 @@ use Rattle.ct_param.specs.ModeLists.{mode_list_of, is_empty}
 use Rattle.ct_pages.specs.declared.pages.ModePages.{ModePages}
 use Rattle.ct_pages.specs.Selects.{selected_pages}
 use Rattle.ct_ua.specs.Attentions.{after_raise_for_others}
+use Rattle.ct_param.specs.declared.resv.ResvList.{ResvList}
 use Rattle.ct_exec.specs.Controls.{ControlState}
+use Rattle.ct_exec.specs.Reserving.{reserve_list}
 
 -- the parameter list is in the first bytes of the data-out; that of the 10-byte command has the long header
 abbrev pub is_long : Form → Bool
@@ -34,9 +36,14 @@ abbrev pub fault_of : Result ModePages ListFault → Option ListFault
 fault_of (Ok pages) = None
 fault_of (Err fault) = Some fault
 
+abbrev pub fault_of_reserve_list : Result ResvList ListFault → Option ListFault
+fault_of_reserve_list (Ok list) = None
+fault_of_reserve_list (Err fault) = Some fault
+
 -- the fault of a command's parameter list
 abbrev pub list_fault : ModePages → List ℕ → Op → Option ListFault
 list_fault pages out (op.ModeSelect form list) = fault_of (pages_behind pages (mode_list form list out))
+list_fault pages out (op.PersistentReserveOut asked size) = fault_of_reserve_list (reserve_list size out)
 list_fault pages out _ = None
 
 -- the control behind a list: all its pages count, and where it has one every other nexus is told of it

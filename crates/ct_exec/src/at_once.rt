@@ -8,7 +8,7 @@ use crate::data::push_data;
 use crate::ended::Instant;
 use crate::refusal::moved_reply;
 use ct_book::Command;
-use ct_word::{NexusSet, Reserve};
+use ct_word::Reserve;
 
 /// Executes a command that nothing refuses and that has no block operation, on a disk of so many blocks. The empty list
 /// with room for its data becomes its data-in.
@@ -27,9 +27,9 @@ pub fn instant(c: &mut Control, command: &Command, body: Reserve<u8>, blocks: u3
 {
     let mut body = body;
     push_data(c, command, blocks, &mut body);
-    change(c, command);
+    let cleared = change(c, command);
     Instant {
         reply: moved_reply(body),
-        cleared: NexusSet::open(),
+        cleared,
     }
 }

@@ -1,8 +1,8 @@
 ghost use Rattle.std.specs.Prelude.{◌≡◌, ◌≤◌, IfSome, IfNone, option_map, [], ◌∷◌, length};
 ghost use Rattle.ct_cdb.specs.Forms.{cdb_of};
 ghost use Rattle.ct_cdb.specs.Profiles.{reports};
-ghost use Rattle.ct_exec.specs.Executions.{undecoded, reported, stopped, asks_saved, unsaved, short_of_data};
-ghost use Rattle.ct_exec.specs.Executions.{faulty_list, out_of_range, write_protected, first_refusal};
+ghost use Rattle.ct_exec.specs.Executions.{undecoded, reported, reserved, stopped, asks_saved, unsaved, short_of_data};
+ghost use Rattle.ct_exec.specs.Executions.{faulty_list, out_of_range, write_protected, faulty_action, first_refusal};
 ghost use Rattle.ct_exec.specs.Executions.{refusal_of, refused_control, plan_in, need_in};
 ghost use Rattle.ct_exec.specs.Refusals.{refused_reply};
 
@@ -12,8 +12,9 @@ use crate::refusal::{Refusal, check_condition};
 use ct_book::Command;
 use ct_cdb::{CdbFault, Op, PageControl, Profile};
 use ct_plan::Plan;
-use ct_sense::code;
+use ct_sense::{Status, code};
 use ct_ua::sense_code;
+use ct_word::Nexus;
 use ct_word::limit::MOST_BLOCKS;
 
 // Why bytes are refused that are no CDB.
@@ -30,18 +31,30 @@ fn undecoded(c: &Control, fault: CdbFault) -> Refusal
     }
 }
 
-// The first of the checks behind that of unit attentions that refuses an operation with this data-out.
-fn row_refusal(c: &Control, op: &Op, out: &[u8], profile: &Profile, blocks: u32) -> Option<Refusal>
+// The first of the checks behind that of unit attentions that refuses an operation of a nexus with this data-out.
+fn row_refusal(
+    c: &Control,
+    nexus: Nexus,
+    op: &Op,
+    out: &[u8],
+    profile: &Profile,
+    blocks: u32,
+) -> Option<Refusal>
     ensures { first_refusal (
-        stopped c.now profile.now
+        reserved c.now nexus profile.now.class
+        ∷ stopped c.now profile.now
         ∷ unsaved c.now op.now
         ∷ short_of_data c.now (length out.now) profile.now
         ∷ faulty_list c.now out.now op.now
         ∷ out_of_range c.now blocks profile.now
         ∷ write_protected c.now profile.now
+        ∷ faulty_action c.now nexus out.now op.now
         ∷ [])
         ≡ option_map refused_reply result }
 {
+    if !c.allows(nexus, profile.class) {
+        return Some(Refusal::of_status(Status::ReservationConflict));
+    }
     if profile.needs_started && !c.is_started() {
         return Some(check_condition(c, code::INITIALIZING_COMMAND_REQUIRED, None));
     }
@@ -60,7 +73,18 @@ fn row_refusal(c: &Control, op: &Op, out: &[u8], profile: &Profile, blocks: u32)
     if profile.is_write && c.pages().protect {
         return Some(check_condition(c, code::WRITE_PROTECTED, None));
     }
-    None
+    action_refusal(c, nexus, out, op)
+}
+
+// Why the action of a PERSISTENT RESERVE OUT of a nexus is refused.
+fn action_refusal(c: &Control, nexus: Nexus, out: &[u8], op: &Op) -> Option<Refusal>
+    ensures { faulty_action c.now nexus out.now op.now ≡ option_map refused_reply result }
+{
+    let fault = c.action_fault(nexus, out, op)?;
+    match fault.sense_code() {
+        Some(code) => Some(check_condition(c, code, None)),
+        None => Some(Refusal::of_status(Status::ReservationConflict)),
+    }
 }
 
 fn asks_saved(op: &Op) -> bool
@@ -107,7 +131,14 @@ pub fn check(c: &mut Control, command: &Command, blocks: u32) -> Option<Refusal>
             let profile = command.profile(blocks);
             match reported(c, command, &profile) {
                 Some(refusal) => Some(refusal),
-                None => row_refusal(c, &cdb.op, command.out.as_slice(), &profile, blocks),
+                None => row_refusal(
+                    c,
+                    command.nexus,
+                    &cdb.op,
+                    command.out.as_slice(),
+                    &profile,
+                    blocks,
+                ),
             }
         }
     }

@@ -1,14 +1,22 @@
-ghost use Rattle.std.specs.Prelude.{◌≡◌, IfOk};
+ghost use Rattle.std.specs.Prelude.{◌≡◌, ◌≤◌, ◌++◌, min, IfOk};
+ghost use Rattle.ct_cdb.specs.Commands.Reservations.{reserve_in_length};
 ghost use Rattle.ct_pages.specs.Selects.{selected_pages};
 ghost use Rattle.ct_ua.specs.Attentions.{first_code};
-ghost use Rattle.ct_exec.specs.Controls.{opening_control, is_unrestricted, has_descriptors};
+ghost use Rattle.ct_resv.specs.Access.{is_allowed};
+ghost use Rattle.ct_resv.specs.Actions.{after_out};
+ghost use Rattle.ct_resv.specs.Reports.{reserve_in_data};
+ghost use Rattle.ct_exec.specs.Controls.{opening_control, is_unrestricted, has_descriptors, tells_aborts};
+ghost use Rattle.ct_exec.specs.Reserving.{action_fault, aborted_by, told_of_action, after_action, cleared_by_answer};
 ghost use Rattle.ct_exec.specs.Modes.{with_pages};
 ghost use Rattle.ct_exec.specs.Changes.{attention_taken};
 
+use crate::action_faults::action_fault;
+use ct_cdb::{Class, Op, ReserveIn, ReserveOut};
 use ct_pages::{ModePages, select_mode};
-use ct_param::ModeList;
+use ct_param::{ModeList, ResvList};
+use ct_resv::{Done, Reservations, ResvFault};
 use ct_ua::Attentions;
-use ct_word::{Code, LunNo, Nexus, NoMemory};
+use ct_word::{Code, LunNo, Nexus, NexusSet, NoMemory, Reserve};
 use std::alloc::Global;
 use std::marker::Model;
 
@@ -19,9 +27,11 @@ pub struct Control {
     pages: ModePages,
     attentions: Attentions,
     is_started: bool,
+    reservations: Reservations,
 }
 
 impl Model for Control {
+    ghost use Rattle.ct_resv.specs.Soundness.{IsSound};
     ghost use Rattle.ct_exec.specs.Controls.{ControlState};
 
     ghost Value = { ControlState };
@@ -31,12 +41,15 @@ impl Model for Control {
       pages = c.pages;
       attentions = c.attentions;
       is_started = c.is_started;
+      reservations = c.reservations;
     } };
+
+    ghost invariant = { λ c. IsSound c.reservations };
 }
 
 impl Control {
-    /// The control of a logical unit as it is opened: the mode pages have their default values, each nexus has the unit attention of power on, and the unit is
-    /// started.
+    /// The control of a logical unit as it is opened: the mode pages have their default values, each nexus has the unit
+    /// attention of power on, the unit is started, and nothing is reserved.
     pub fn open(_alloc: Global, lun: LunNo) -> Result<Control, NoMemory>
         ensures { IfOk result (λ control. control ≡ opening_control lun) }
     {
@@ -45,6 +58,7 @@ impl Control {
             pages: ModePages::open(),
             attentions: Attentions::at_power_on(),
             is_started: true,
+            reservations: Reservations::open(),
         })
     }
 
@@ -100,6 +114,50 @@ impl Control {
         self.attentions.take(nexus)
     }
 
+    /// Whether a persistent reservation lets commands of a class through for a nexus.
+    pub(crate) fn allows(&self, nexus: Nexus, class: Class) -> bool
+        ensures { result ≡ is_allowed self.now.reservations nexus class }
+    {
+        self.reservations.allowed(nexus, class)
+    }
+
+    /// Why the action of a command of a nexus is refused, if it is a PERSISTENT RESERVE OUT.
+    pub(crate) fn action_fault(&self, nexus: Nexus, out: &[u8], op: &Op) -> Option<ResvFault>
+        ensures { result ≡ action_fault self.now.reservations nexus out.now op.now }
+    {
+        action_fault(&self.reservations, nexus, out, op)
+    }
+
+    /// Does an action of PERSISTENT RESERVE OUT of a nexus, and tells the nexuses that it concerns. Returns those whose
+    /// commands it aborts.
+    #[tactic(auto, unfolding(crate::specs::Controls::tells_aborts))]
+    pub(crate) fn reserve(&mut self, nexus: Nexus, action: ReserveOut, list: &ResvList) -> NexusSet
+        ensures changed { self.new ≡ after_action self.old action (after_out self.old.reservations nexus action list.now) }
+        ensures cleared { result ≡ cleared_by_answer action (after_out self.old.reservations nexus action list.now).answer }
+    {
+        match self.reservations.out(nexus, action, list) {
+            Ok(done) => {
+                let aborted = aborted_by(action, &done);
+                tell(&mut self.attentions, self.pages.tas, &done, &aborted);
+                aborted
+            }
+            Err(_) => NexusSet::open(),
+        }
+    }
+
+    /// Adds what PERSISTENT RESERVE IN returns.
+    pub(crate) fn push_reservations(
+        &self,
+        action: ReserveIn,
+        allocation: u16,
+        into: &mut Reserve<u8>,
+    )
+        requires { min allocation (reserve_in_length action) ≤ into.old.room }
+        ensures { into.new.items ≡ into.old.items ++ reserve_in_data self.now.reservations action allocation }
+    {
+        self.reservations.input(action, allocation, into);
+    }
+
     /// Whether reordering is unrestricted.
     #[tactic(auto, unfolding(crate::specs::Controls::is_unrestricted))]
     pub fn is_unrestricted(&self) -> bool
@@ -108,11 +166,41 @@ impl Control {
         false
     }
 
+    /// Whether a command that another nexus aborts ends with TASK ABORTED (SPC-4, Control mode page).
+    #[tactic(auto, unfolding(crate::specs::Controls::tells_aborts))]
+    pub fn tells_aborts(&self) -> bool
+        ensures { result ≡ tells_aborts self.now }
+    {
+        self.pages.tas
+    }
+
     /// Whether sense data have the descriptor form.
     #[tactic(auto, unfolding(crate::specs::Controls::has_descriptors))]
     pub(crate) fn has_descriptors(&self) -> bool
         ensures { result ≡ has_descriptors self.now }
     {
         self.pages.descriptor
+    }
+}
+
+// The nexuses whose commands an action aborts.
+fn aborted_by(action: ReserveOut, done: &Done) -> NexusSet
+    ensures { result ≡ aborted_by action done.now }
+{
+    match action {
+        ReserveOut::PreemptAndAbort(_) => done.removed,
+        _ => NexusSet::open(),
+    }
+}
+
+// Raises the unit attentions of an action, where TAS has this value.
+fn tell(attentions: &mut Attentions, tells_aborts: bool, done: &Done, aborted: &NexusSet)
+    ensures { attentions.new ≡ told_of_action tells_aborts done.now aborted.now attentions.old }
+{
+    attentions.raise_for(&done.removed, Code::RegistrationsPreempted);
+    attentions.raise_for(&done.released, Code::ReservationsReleased);
+    attentions.raise_for(&done.preempted, Code::ReservationsPreempted);
+    if !tells_aborts {
+        attentions.raise_for(aborted, Code::CommandsCleared);
     }
 }

@@ -1,6 +1,8 @@
 //! The data that a command returns of the logical unit itself, and not of its blocks.
 
-ghost use Rattle.std.specs.Prelude.{◌≡◌, ◌≤◌, ◌++◌, length};
+ghost use Rattle.std.specs.Prelude.{◌≡◌, ◌≤◌, [], ◌++◌, length};
+ghost use Rattle.ct_cdb.specs.Profiles.{profile_of};
+ghost use Rattle.ct_book.specs.Works.{room_for};
 ghost use Rattle.ct_exec.specs.Data.{sense_data, data_by, data_of_unit};
 
 use crate::control::Control;
@@ -15,7 +17,7 @@ use ct_word::{Code, Nexus, Reserve};
 /// Adds the data of a command, on a disk of so many blocks.
 #[tactic(auto, unfolding(crate::specs::Data::data_of_unit))]
 pub(crate) fn push_data(c: &Control, command: &Command, blocks: u32, into: &mut Reserve<u8>)
-    requires { length (data_of_unit c.now blocks command.now) ≤ into.old.room }
+    requires { room_for command.now.cdb ≤ into.old.room }
     ensures { into.new.items ≡ into.old.items ++ data_of_unit c.now blocks command.now }
 {
     if let Ok(cdb) = command.cdb.decoded() {
@@ -31,7 +33,7 @@ fn push_data_by(
     op: &Op,
     into: &mut Reserve<u8>,
 )
-    requires { length (data_by c.now blocks nexus visible op.now) ≤ into.old.room }
+    requires { (profile_of op.now [] 0).data_in ≤ into.old.room }
     ensures { into.new.items ≡ into.old.items ++ data_by c.now blocks nexus visible op.now }
 {
     match *op {
@@ -59,6 +61,9 @@ fn push_data_by(
             allocation,
             into,
         ),
+        Op::PersistentReserveIn { action, allocation } => {
+            c.push_reservations(action, allocation, into)
+        }
         _ => {}
     }
 }

@@ -1,6 +1,7 @@
 //! The checks of a command that begins, and what it does where it moves no block.
 #![tactic(auto)]
 
+mod action_faults;
 mod at_once;
 mod change;
 mod checks;

@@ -1,9 +1,10 @@
-//! The parameter list of MODE SELECT (SPC-4), for checks and for the change that it makes.
+//! The parameter list of MODE SELECT (SPC-4), for checks and for the change that it makes; the faults of all lists.
 
 ghost use Rattle.std.specs.Prelude.{◌≡◌};
 ghost use Rattle.ct_pages.specs.Selects.{selected_pages};
 ghost use Rattle.ct_exec.specs.Modes.{is_long, mode_list, fault_of, list_fault};
 
+use crate::action_faults::reserve_list;
 use ct_cdb::{Form, Op};
 use ct_pages::{ModePages, select_mode};
 use ct_param::{ListFault, ModeList, read_mode};
@@ -31,6 +32,10 @@ pub(crate) fn list_fault(pages: ModePages, out: &[u8], op: &Op) -> Option<ListFa
     match *op {
         Op::ModeSelect { form, list } => match mode_list(form, list, out) {
             Ok(list) => page_fault(pages, &list),
+            Err(fault) => Some(fault),
+        },
+        Op::PersistentReserveOut { list, .. } => match reserve_list(list, out) {
+            Ok(_) => None,
             Err(fault) => Some(fault),
         },
         _ => None,

@@ -17,6 +17,10 @@ is_listed calls = list_any (λ number. number == calls.made) calls.fails && nat_
 abbrev pub one_more : Calls → Calls
 one_more calls = record calls { made = min (calls.made + 1) (2 ^ 64) }
 
+-- how many calls were made, up to the end of u64
+abbrev pub reads_of : Calls → ℕ
+reads_of calls = min calls.made (2 ^ 64 - 1)
+
 -- one more call failed
 abbrev pub one_fault : Calls → Calls
 one_fault calls = record calls { faults = min (calls.faults + 1) (2 ^ 64 - 1) }

@@ -1,7 +1,7 @@
 ghost use Rattle.std.specs.Prelude.{◌≡◌, ℕ, ◌<◌, ◌≤◌, ◌++◌, Some, min, length, take, drop, IfOk};
 ghost use Rattle.std.specs.Io.KnownBytes.{ReadConsumes};
-ghost use Rattle.ct_word.specs.Causes.{HasCause, end_of_u64};
-ghost use Rattle.ct_io.specs.Memory.{ReadsMemory};
+ghost use Rattle.ct_word.specs.Causes.{HasCause, Rose, end_of_u64};
+ghost use Rattle.ct_io.specs.Memory.{ReadsMemory, reads_of};
 
 use crate::call_log::CallLog;
 use crate::source::Source;
@@ -51,12 +51,15 @@ impl MemSource {
 impl Source for MemSource {
     ghost left = { λ s. Some s.left };
 
+    ghost reads = { λ s. reads_of s.calls };
+
     ghost faults = { λ s. s.calls.faults };
 
     fn read(&mut self, into: &mut [u8]) -> Result<usize, Failed>
         requires { 0 < length into.old }
         ensures bound { IfOk result (λ n. n ≤ length into.new) }
         ensures bytes { ReadConsumes (Some self.old.left) (Some self.new.left) result into.new }
+        ensures counted { Rose end_of_u64 (reads_of self.old.calls) (reads_of self.new.calls) }
         ensures cause { HasCause end_of_u64 self.old.calls.faults self.new.calls.faults result }
         ensures exact { ReadsMemory self.old self.new into.old into.new result }
     {

@@ -13,7 +13,7 @@ pub trait Sink {
     ghost faults: { Self → ℕ };
 
     /// Takes bytes from the front of `piece`, and says how many: at least one.
-    /// A call that fails takes no byte and raises the count of faults.
+    /// A call that fails takes no byte and raises the count of faults, and no other does.
     fn write(&mut self, piece: &[u8]) -> Result<usize, Failed>
         requires { 0 < length piece.now }
         ensures taken { IfOk result (λ n. (0 < n) × (n ≤ length piece.now)) }

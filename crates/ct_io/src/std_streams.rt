@@ -9,24 +9,33 @@ use std::io::{Read, Write};
 #[derive(Debug, Drop)]
 pub struct StdSource<R> {
     reader: R,
+    reads: u64,
     faults: u64,
 }
 
 impl<R: Read> StdSource<R> {
     pub fn new(reader: R) -> StdSource<R>
         ensures left { ⟦<StdSource<R> as Source>⟧.left result ≡ R.remaining reader }
+        ensures reads { ⟦<StdSource<R> as Source>⟧.reads result ≡ 0 }
         ensures faults { ⟦<StdSource<R> as Source>⟧.faults result ≡ 0 }
     {
-        StdSource { reader, faults: 0 }
+        StdSource {
+            reader,
+            reads: 0,
+            faults: 0,
+        }
     }
 }
 
 impl<R: Read> Source for StdSource<R> {
     ghost left = { λ s. R.remaining s.reader };
 
+    ghost reads = { λ s. s.reads };
+
     ghost faults = { λ s. s.faults };
 
     fn read(&mut self, into: &mut [u8]) -> Result<usize, Failed> {
+        self.reads = self.reads.saturating_add(1);
         match self.reader.read(into) {
             Ok(count) => Ok(count),
             Err(_) => {

@@ -2,7 +2,7 @@ ghost use Rattle.std.specs.Prelude.{◌≤◌};
 
 use super::*;
 use std::alloc::Global;
-use std::io::Cursor;
+use std::io::{self, Cursor, ErrorKind, Read, Write};
 use std::test::Fail;
 
 const TEXT: &[u8] = b"The quick brown fox jumps over the lazy dog.";
@@ -99,5 +99,72 @@ fn puts_into_std_writers(rt: HostRuntime) -> Result<(), Fail> {
     let full = put_all(&mut StdSink::new(place.as_mut_slice()), TEXT);
     assert_eq!(rt; full, Err(PutFault { sent: 5 }));
     assert_eq!(rt; place.as_slice(), b"The q".as_slice());
+    Ok(())
+}
+
+// A stream that moves one byte at a call, and fails once, at the call of this number, from 0.
+#[derive(Debug, Drop)]
+struct FailsOnce {
+    at: u64,
+    calls: u64,
+}
+
+impl FailsOnce {
+    fn is_to_fail(&mut self) -> bool {
+        let call = self.calls;
+        self.calls = call.saturating_add(1);
+        call == self.at
+    }
+}
+
+impl Read for FailsOnce {
+    fn read(&mut self, buf: &mut [u8]) -> io::Result<usize> {
+        if self.is_to_fail() {
+            return Err(ErrorKind::Interrupted.into());
+        }
+        match buf.first_mut() {
+            Some(byte) => {
+                *byte = b'x';
+                Ok(1)
+            }
+            None => Ok(0),
+        }
+    }
+}
+
+impl Write for FailsOnce {
+    fn write(&mut self, buf: &[u8]) -> io::Result<usize> {
+        if self.is_to_fail() {
+            return Err(ErrorKind::Interrupted.into());
+        }
+        Ok(buf.len().min(1))
+    }
+
+    fn flush(&mut self) -> io::Result<()> {
+        Ok(())
+    }
+}
+
+#[test]
+fn a_failed_call_is_not_made_again(rt: HostRuntime) -> Result<(), Fail> {
+    let alloc = rt.alloc();
+    let mut reader = FailsOnce { at: 3, calls: 0 };
+    let taken = take_all(alloc, &mut StdSource::new(&mut reader), 1000).map(|taken| taken.len());
+    assert_eq!(rt; taken, Err(TakeError::ReadFault));
+    assert_eq!(rt; reader.calls, 4);
+
+    let mut writer = FailsOnce { at: 3, calls: 0 };
+    let put = put_all(&mut StdSink::new(&mut writer), TEXT);
+    assert_eq!(rt; put, Err(PutFault { sent: 3 }));
+    assert_eq!(rt; writer.calls, 4);
+    Ok(())
+}
+
+#[test]
+fn reads_one_byte_past_the_limit_at_most(rt: HostRuntime) -> Result<(), Fail> {
+    let mut reader = FailsOnce { at: 6, calls: 0 };
+    let taken = take_all(rt.alloc(), &mut StdSource::new(&mut reader), 5).map(|taken| taken.len());
+    assert_eq!(rt; taken, Err(TakeError::TooLong));
+    assert_eq!(rt; reader.calls, 6);
     Ok(())
 }

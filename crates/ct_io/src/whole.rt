@@ -1,10 +1,10 @@
 //! Streams as a whole.
 
-ghost use Rattle.std.specs.Prelude.{◌≡◌, ℕ, List, ◌+◌, ◌<◌, ◌≤◌, length, take, IfOk, IfErr, OnOk, OnErr};
-ghost use Rattle.std.specs.Io.KnownBytes.{Consumes, Appends, ReadConsumes};
+ghost use Rattle.std.specs.Prelude.{◌≡◌, ◌≢◌, ◌+◌, ◌<◌, ◌≤◌, length, take, IfOk, IfErr, OnOk, OnErr};
+ghost use Rattle.std.specs.Io.KnownBytes.{Appends, ReadConsumes};
 ghost use Rattle.ct_word.specs.Causes.{HasCause, Rose, end_of_u64};
 ghost use Rattle.ct_io.specs.declared.whole.TakeError.TheVariants.{ReadFault, NoMemory};
-ghost use Rattle.ct_io.specs.Streams.{GivesAll, IsLongerThan};
+ghost use Rattle.ct_io.specs.Streams.{GivesAll, GivesUpTo, IsLongerThan};
 
 use crate::sink::Sink;
 use crate::source::Source;
@@ -60,9 +60,11 @@ pub fn take_all<S: Source>(
 
     ensures too_long { result ≡ Err TakeError.TooLong → IsLongerThan limit (S.left source.old) }
     ensures read { result ≡ Err TakeError.ReadFault → Rose end_of_u64 (S.faults source.old) (S.faults source.new) }
-
+    ensures unfailed { result ≢ Err TakeError.ReadFault → S.faults source.new ≡ S.faults source.old }
     ensures later { S.faults source.old ≤ S.faults source.new }
-    ensures given { OnErr result ((bytes : List ℕ) × Consumes (S.left source.old) (S.left source.new) bytes) }
+
+    ensures given { OnErr result (GivesUpTo (limit + 1) (S.left source.old) (S.left source.new)) }
+    ensures few { S.reads source.new ≤ S.reads source.old + limit + 1 }
 {
     let mut piece = vec![in alloc; 0u8; limit.min(PIECE - 1) + 1]?;
     let mut taken = Vec::new(alloc);
@@ -84,6 +86,7 @@ fn read_past<S: Source>(source: &mut S, room: usize, piece: &mut [u8]) -> Result
     requires { 0 < length piece.old }
     ensures bound { IfOk result (λ n. (n ≤ room + 1) × (n ≤ length piece.new)) }
     ensures bytes { ReadConsumes (S.left source.old) (S.left source.new) result piece.new }
+    ensures counted { Rose end_of_u64 (S.reads source.old) (S.reads source.new) }
     ensures cause { HasCause end_of_u64 (S.faults source.old) (S.faults source.new) result }
 {
     let most = room.min(piece.len() - 1) + 1;

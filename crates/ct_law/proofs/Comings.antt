@@ -52,7 +52,12 @@ use Rattle.ct_law.proofs.Steps.{rules_same, holds_same, Comes, came_with, came_s
 use Rattle.ct_law.proofs.Entries.{entry_over, over_inactive, gone_so, opens_turns}
 use Rattle.ct_law.proofs.Overs.{by_so}
 use Rattle.ct_law.proofs.Walk.{Fresh, entering_so, closing_all_so, asking_so}
+use Rattle.ct_law.proofs.Functions.{function_in}
+use Rattle.ct_law.proofs.Sends.{in_tasks, IsFine, fine_act, fine_opened}
+use Rattle.ct_law.proofs.Schedules.{Worked, worked_without, worked_with, untimed, untimed_by}
 use Rattle.ct_law.proofs.Turns.{found_of, step_so}
+use Rattle.std.proofs.Common.{◌≤◌, length}
+use Rattle.ct_machine.specs.Laws.{due_of}
 
 -- Arrivals
 
@@ -84,8 +89,9 @@ record Came_so (o : Opening) (journal : List Logged) (n : ℕ) (node : Node) (w 
 
 came : (o : Opening) (s : State) (journal : List Logged) (node : Node) (w : KeptWork) → Now NoneDue o s journal → Came_so o journal (next_number s) node w (writes (arrived (next_number s) node w) s)
 came o s journal node w h = record {
-  now = wrote NoneDue o s next journal e h.at state
-      (came_so NoneDue o s journal n node w after_it.0 (sent_if node n w s.to_a) refl h.inv (comes node refl));
+  now = wrote NoneDue o s next journal e h.schedule state
+      (came_so NoneDue o s journal n node w after_it.0 (sent_if node n w s.to_a) refl h.inv (comes node refl))
+      h.schedule.worked (untimed o journal e refl);
   came = ap (λ (t : State). numbered n t.arrivals) state ∙ numbered_last n s.arrivals (record { node = node; work = w }) refl;
   fresh = λ k. subst (λ (t : State). Fresh t (journal ++ e ∷ []) n) (sym state) (record {
     untouched = untouched;
@@ -150,7 +156,7 @@ arriving_so laws o s journal node w h = go (has_room_for w s)
 delivered_so : (P : ℕ → ℕ → Type 0) (o : Opening) (s : State) (journal : List Logged) (node : Node) (k : Kind2) (n : ℕ) → Inv P o s journal → Inv P o s (journal ++ told (event.Deliver node k n) ∷ [])
 delivered_so P o s journal node k n h = record {
   frame = record {
-    each = each_more (LawfulAt o) [] journal e h.frame.each (record { once = λ m z. absurd (cc); orderly = tt; prefix = tt; cells = tt; sound = tt; legal = λ r. tt; by = tt });
+    each = each_more (LawfulAt o) [] journal e h.frame.each (record { once = λ m z. absurd (cc); typed = tt; orderly = tt; plan = tt; prefix = tt; cells = tt; sound = tt; legal = λ r. tt });
     works = h.frame.works ∙ sym (works_in-none journal e refl);
     size = h.frame.size;
     books = books_function journal s.arrivals s.tasks s.to_a e h.frame.books (λ m. refl) (λ y hy z. z) (λ m z i. i);
@@ -253,8 +259,8 @@ comes_to_a laws o s journal m ms to h = then_so NoneDue o journal first (coming_
     left = delivered_so NoneDue o (record s { to_a = ms }) journal A m.kind m.no (popped_a NoneDue o s journal m ms to h.inv)
 
     quietly : is_end m.kind ≡ false → Now NoneDue o t (journal ++ e ∷ [])
-    quietly no_end = wrote NoneDue o s (record s { to_a = ms }) journal e h.at
-        (after_a m.kind m.no m ms s no_end to) left
+    quietly no_end = wrote NoneDue o s (record s { to_a = ms }) journal e h.schedule
+        (after_a m.kind m.no m ms s no_end to) left h.schedule.worked (untimed o journal e refl)
 
     stays : is_end m.kind ≡ false → After NoneDue o (journal ++ e ∷ []) (nothing t)
     stays no_end = stays_so NoneDue o t (journal ++ e ∷ []) (quietly no_end)
@@ -281,8 +287,9 @@ comes_to_a laws o s journal m ms to h = then_so NoneDue o journal first (coming_
     gone is =
         let over : has (is_entry m.no) journal ≡ true = h.inv.frame.opens.gone m.no (subst (λ q. Sent is_end m.no q) (sym to) (inl (is, refl))) in
         let over' : has (is_entry m.no) (journal ++ e ∷ []) ≡ true = has_stays (is_entry m.no) journal e over in
-        wrote NoneDue o s (gone_at_b m.no (record s { to_a = ms })) journal e h.at (after_end m.kind m.no m ms s is to)
+        wrote NoneDue o s (gone_at_b m.no (record s { to_a = ms })) journal e h.schedule (after_end m.kind m.no m ms s is to)
         (awaited_so NoneDue o (record s { to_a = ms; tasks = without_task m.no s.tasks }) (journal ++ e ∷ []) m.no over' (gone_so NoneDue o (record s { to_a = ms }) (journal ++ e ∷ []) m.no over' left))
+        (worked_without o.blocks m.no s.tasks h.schedule.worked) (untimed o journal e refl)
 
     closes : is_end m.kind ≡ true → After NoneDue o (journal ++ e ∷ []) (closing_all (open_numbers t) t)
     closes is = closing_all_so laws o (open_numbers t) t (journal ++ e ∷ []) (gone is)
@@ -393,18 +400,18 @@ comes_to_b laws o s journal m ms to h = then_so NoneDue o journal first (coming_
     stays now = stays_so NoneDue o t (journal ++ e ∷ []) now
 
     quietly : is_grant_kind m.kind ≡ false → Now NoneDue o t (journal ++ e ∷ [])
-    quietly no_grant = wrote NoneDue o s (record s { to_b = ms }) journal e h.at
-        (after_b m.kind m.no m ms s no_grant to) left
+    quietly no_grant = wrote NoneDue o s (record s { to_b = ms }) journal e h.schedule
+        (after_b m.kind m.no m ms s no_grant to) left h.schedule.worked (untimed o journal e refl)
 
     grants : m.kind ≡ kind.Grant → Now NoneDue o t (journal ++ e ∷ [])
     grants k = found (task_of m.no s.tasks) refl
       where
-        grant : (q : State) → after s (told (event.Deliver B kind.Grant m.no)) ≡ q → Inv NoneDue o q (journal ++ e ∷ []) → Now NoneDue o t (journal ++ e ∷ [])
-        grant q state inv = wrote NoneDue o s q journal e h.at
-            (ap (λ i. after s (told (event.Deliver B i m.no))) k ∙ state) inv
+        grant : (q : State) → after s (told (event.Deliver B kind.Grant m.no)) ≡ q → Inv NoneDue o q (journal ++ e ∷ []) → Worked o.blocks q.tasks → Now NoneDue o t (journal ++ e ∷ [])
+        grant q state inv worked = wrote NoneDue o s q journal e h.schedule
+            (ap (λ i. after s (told (event.Deliver B i m.no))) k ∙ state) inv worked (untimed o journal e refl)
 
         none : ((x : Task) → task_of m.no s.tasks ≡ Some x → x.stage ≡ Granted → ⊥) → Now NoneDue o t (journal ++ e ∷ [])
-        none f = grant (record s { to_b = ms }) (after_no_grant m.no m ms s to f) left
+        none f = grant (record s { to_b = ms }) (after_no_grant m.no m ms s to f) left h.schedule.worked
 
         other : (x : Task) (stage : Stage) → task_of m.no s.tasks ≡ Some x → x.stage ≡ stage → (stage ≡ Granted → ⊥) → Now NoneDue o t (journal ++ e ∷ [])
         other x stage f st ne = none (λ y g i. let same : Some x ≡ Some y = sym f ∙ g in ne (sym st ∙ ap (λ (z : Task). z.stage) (same_Some x y same) ∙ i))
@@ -412,6 +419,7 @@ comes_to_b laws o s journal m ms to h = then_so NoneDue o journal first (coming_
         at : (x : Task) → task_of m.no s.tasks ≡ Some x → (stage : Stage) → x.stage ≡ stage → Now NoneDue o t (journal ++ e ∷ [])
         at x f Granted st = grant (record s { to_b = ms; tasks = with_task (at_stage (There 0 []) x) s.tasks }) (after_grant m.no m ms x s to f st)
             (granted_so NoneDue o (record s { to_b = ms }) (journal ++ e ∷ []) x (has_found m.no s.tasks x f).0 st left)
+            (worked_with o.blocks s.tasks (at_stage (There 0 []) x) h.schedule.worked (h.schedule.worked x (has_found m.no s.tasks x f).0 (ap is_waiting st)).0 (omega arith))
         at x f Waiting st = other x Waiting f st (λ z. cc)
         at x f (Here d g) st = other x (Here d g) f st (λ z. cc)
         at x f (There d g) st = other x (There d g) f st (λ z. cc)
@@ -450,9 +458,12 @@ comes_to_b laws o s journal m ms to h = then_so NoneDue o journal first (coming_
             (subst (λ n. numbered n t.arrivals ≡ Some (record { node = asked.node; work = work.Ask was.0.ask })) was.2 asked.came) was.4
             (subst (λ n. has (is_asked n) j ≡ true) was.2 asked.asking) (subst (λ n. has (is_entry n) j ≡ false) was.2 asked.entry)) in
             wrote NoneDue o t (over_at_b kind.Stopped x (record t { functions = noted m.by x.no t.functions }))
-            j l now.at
+            j l now.schedule
             (after_stopped x (puts_of x t) m.by m.told d g t (found_of t.tasks x now.inv.rules.single hx.0) st)
             (tells_so NoneDue o t (j ++ l ∷ []) x kind.Stopped (noted m.by x.no t.functions) t.control t.blocks refl (has_now (is_entry x.no) j l (eq-eqb x.no x.no refl)) over)
+            (worked_with o.blocks t.tasks (at_stage Over x) now.schedule.worked (now.schedule.worked x hx.0 (ap is_waiting st)).0 (omega arith))
+            (untimed_by o j l x.no (puts_of x t) m.by m.told was.0.ask refl
+            (function_in NoneDue o t j m.by asked.node was.0.ask now.inv.frame (subst (λ n. numbered n t.arrivals ≡ Some (record { node = asked.node; work = work.Ask was.0.ask })) was.2 asked.came)))
 
     go : (k : Kind2) → m.kind ≡ k → After NoneDue o (journal ++ e ∷ []) (coming_to_b k m t)
     go kind.Stop k = stops k (task_of m.no t.tasks) refl
@@ -474,15 +485,15 @@ delivers_so laws o s journal node h = go node (messages_to node s) refl
 
 -- All runs
 
-pub acts_so : (laws : Laws) (o : Opening) (s : State) (journal : List Logged) (a : Act) (fault : Option ℕ) → Now NoneDue o s journal → After NoneDue o journal (doing s a fault).turn
-acts_so laws o s journal (act.Arrive node w) fault h = arriving_so laws o s journal node w h
-acts_so laws o s journal (act.Step number count) fault h = step_so laws o s journal number count fault h
-acts_so laws o s journal (act.Deliver node) fault h = delivers_so laws o s journal node h
-acts_so laws o s journal (act.Next count) fault h = go s.to_a s.to_b
+pub acts_so : (laws : Laws) (o : Opening) (s : State) (journal : List Logged) (a : Act) (fault : Option ℕ) → Now NoneDue o s journal → ((n : ℕ) → in_tasks n s.tasks ≤ 1) → After NoneDue o journal (doing s a fault).turn
+acts_so laws o s journal (act.Arrive node w) fault h distinct = arriving_so laws o s journal node w h
+acts_so laws o s journal (act.Step number count) fault h distinct = step_so laws o s journal number count fault h distinct
+acts_so laws o s journal (act.Deliver node) fault h distinct = delivers_so laws o s journal node h
+acts_so laws o s journal (act.Next count) fault h distinct = go s.to_a s.to_b
   where
     next : (found : Option ℕ) → After NoneDue o journal (stepping_next found count fault s).turn
     next None = stays_so NoneDue o s journal h
-    next (Some number) = step_so laws o s journal number count fault h
+    next (Some number) = step_so laws o s journal number count fault h distinct
 
     go : (to_a to_b : List Message) → After NoneDue o journal (doing_next to_a to_b count fault s).turn
     go (m ∷ ms) to_b = delivers_so laws o s journal A h
@@ -503,7 +514,7 @@ opened_books o = record {
 }
 
 pub opened_so : (o : Opening) → Now NoneDue o (opened o) []
-unfolding replay serial_disk beside
+unfolding replay serial_disk beside due_of
 opened_so o = record {
   inv = record {
     frame = record {
@@ -526,9 +537,17 @@ opened_so o = record {
     cells = record { blocks = λ n. refl; gained = λ x k. absurd k; ungained = λ n k. record { got = refl; difference = refl } };
     holds = λ r. opened_held o.blocks (opening_disk o.lun o.blocks);
   };
-  at = refl;
+  schedule = record { at = refl; timely = tt; due = refl; worked = λ x hx. absurd hx };
 }
 
 -- what holds of every run
 pub every_run : (laws : Laws) (o : Opening) (journal : List Logged) → IsRun o journal → Now NoneDue o (replay o journal) journal
-every_run laws o = run_induction o (λ s journal. Now NoneDue o s journal) (opened_so o) (λ s journal a fault allowed h. acts_so laws o s journal a fault h)
+every_run laws o journal run =
+    (run_induction o (λ s es. IsFine n s × Now NoneDue o s es) (fine_opened o, opened_so o)
+    (λ s es a fault allowed h. (
+      fine_act laws n s a fault h.0,
+      acts_so laws o s es a fault h.1 (λ m. let k = h.0.single m in omega (arith, k)),
+    )) journal run).1
+  where
+    n : ℕ
+    n = length (opened o).blocks

@@ -1,10 +1,9 @@
 -- The commands obey the laws.
 use Rattle.std.specs.List.{list_all}
-use Rattle.std.proofs.Common.{◌≡◌, ◌≢◌, ℕ, ◌≤◌, ◌<◌, Bool, true, false, not, ◌&&◌, nat_lt, if◌then◌else◌, List, [], ◌∷◌}
-use Rattle.std.proofs.Common.{Option, Some, None, option_map, Result, Ok, Err, length, replicate, slice_index_or, refl, sym}
+use Rattle.std.proofs.Common.{◌≡◌, ◌≢◌, ℕ, Bool, true, false, not, ◌&&◌, nat_lt, if◌then◌else◌, List, [], ◌∷◌}
+use Rattle.std.proofs.Common.{Option, Some, None, option_map, Result, Ok, Err, length, slice_index_or, refl, sym}
 use Rattle.std.proofs.Common.{ap, ◌∙◌, subst, ⊎_elim}
-use Rattle.std.proofs.lemmas.Bool.{cases_eq, cases_lt}
-use Rattle.std.proofs.lemmas.List.{get_or-replicate, get_or_past, length-replicate}
+use Rattle.std.proofs.lemmas.Bool.{both_ways, cases_eq}
 use Rattle.ct_word.specs.declared.names.Nexus.{Nexus}
 use Rattle.ct_word.specs.Nexuses.{no_nexuses, contains, place_of}
 use Rattle.ct_word.specs.declared.names.Code.{Code}
@@ -14,6 +13,7 @@ use Rattle.ct_cdb.specs.declared.op.Cdb.{Cdb}
 use Rattle.ct_cdb.specs.declared.op.CdbFault.{CdbFault}
 use Rattle.ct_cdb.specs.declared.op.SerIdx.{SerIdx}
 use Rattle.ct_cdb.specs.declared.op.SerIdx.TheVariants.{Rd, Wr, Un, MSl, Res, Sta}
+use Rattle.ct_cdb.specs.declared.profile.Class.{Class}
 use Rattle.ct_cdb.specs.declared.profile.Phase.{Phase}
 use Rattle.ct_cdb.specs.declared.profile.Profile.{Profile}
 use Rattle.ct_cdb.specs.Built.{is_built}
@@ -38,6 +38,10 @@ use Rattle.ct_plan.specs.Plans.{plan_of}
 use Rattle.ct_plan.specs.Cells.{Cells, performed}
 use Rattle.ct_param.specs.declared.fault.ListFault.{ListFault}
 use Rattle.ct_param.specs.Faults.{sense_code_of as sense_code_of_fault}
+use Rattle.ct_resv.specs.declared.fault.ResvFault.{ResvFault}
+use Rattle.ct_resv.specs.declared.reservations.Reservations.{Reservations}
+use Rattle.ct_resv.specs.Faults.{sense_code_of as sense_code_of_resv_fault}
+use Rattle.ct_resv.specs.Access.{is_allowed}
 use Rattle.ct_pages.specs.declared.pages.ModePages.{ModePages}
 use Rattle.ct_ua.specs.declared.code_set.CodeSet.{CodeSet}
 use Rattle.ct_ua.specs.CodeSets.{no_codes, first_of, sense_code_of}
@@ -45,16 +49,20 @@ use Rattle.ct_ua.specs.Attentions.{first_code}
 use Rattle.ct_ua.proofs.Nexuses.{nothing_taken, first_left}
 use Rattle.ct_book.specs.declared.work.Command.{Command}
 use Rattle.ct_book.specs.Works.{profile_in}
-use Rattle.ct_exec.specs.Controls.{ControlState, Disk, closing_control}
+use Rattle.ct_exec.specs.Controls.{ControlState, Disk, closing_control, tells_aborts}
 use Rattle.ct_exec.specs.Modes.{list_fault}
+use Rattle.ct_exec.specs.Reserving.{action_fault}
 use Rattle.ct_exec.specs.Changes.{attention_taken, changed_by, decoded_change, changed_control}
-use Rattle.ct_exec.specs.Executions.{Execution, good, check_condition, unbuilt, reported, stopped, short_of_data}
+use Rattle.ct_exec.specs.Changes.{cleared_by}
+use Rattle.ct_exec.specs.Executions.{Execution, good, check_condition, reservation_conflict, refused_action}
+use Rattle.ct_exec.specs.Executions.{unbuilt, reported, reserved, stopped, short_of_data, faulty_action}
 use Rattle.ct_exec.specs.Executions.{asks_saved, unsaved, faulty_list, out_of_range, write_protected, refusal_by}
 use Rattle.ct_exec.specs.Executions.{refusal_of, refused_control, executed, execute, plan_in}
 use Rattle.ct_exec.specs.Data.{data_of_unit}
 use Rattle.ct_exec.proofs.Unrefused.{first_parts, first_none}
+use Rattle.ct_exec.proofs.Clears.{none_contained, clearing_index, clearing_keeps_tas}
 use Rattle.ct_exec.proofs.UnitData.{unplanned}
-use Rattle.ct_exec.proofs.Instants.{begun, begun_moving, changed_moving, operated_by, whole_execution}
+use Rattle.ct_exec.proofs.Instants.{begun, begun_moving, changed_moving, cleared_moving, operated_by, whole_execution}
 use Rattle.ct_machine.specs.States.{held_by}
 use Rattle.ct_law.proofs.Blocks.{start, perform_size}
 use Rattle.ct_law.proofs.Footprints.{apart_law}
@@ -64,7 +72,8 @@ use Rattle.ct_law.proofs.Laws.{has_operations, operated, IsOnce, Same, Laws}
 
 -- a command that nothing refuses, with its operations and the data that it returns of the unit
 abbrev done : Disk → Command → List BlockOp → Execution
-done disk c ops = operated_by disk (changed_control disk.control c) (performed c.out ops (begun disk c))
+done disk c ops =
+    operated_by disk (changed_control disk.control c) (cleared_by disk.control c) (performed c.out ops (begun disk c))
 
 whole_any : (n : ℕ) (disk : Disk) (c : Command) → length disk.blocks ≡ n → refusal_of disk.control n c ≡ None
     → execute disk c ≡ done disk c (plan_in n c)
@@ -83,10 +92,12 @@ whole_law n disk c sized e moves = go (plan_in n c) refl moves
         let here : plan_in (length disk.blocks) c ≡ operation ∷ others =
         subst (λ (m : ℕ). plan_in m c ≡ operation ∷ others) (sym sized) planned_is in
         whole_any n disk c sized e
-        ∙ ap (λ (cells : Cells). operated_by disk (changed_control disk.control c)
+        ∙ ap (λ (cells : Cells). operated_by disk (changed_control disk.control c) (cleared_by disk.control c)
         (performed c.out (plan_in n c) cells)) (begun_moving disk c operation others here)
-        ∙ ap (λ (changed : ControlState). operated_by disk changed
+        ∙ ap (λ (changed : ControlState). operated_by disk changed (cleared_by disk.control c)
         (performed c.out (plan_in n c) (start disk.blocks))) (changed_moving disk c operation others here)
+        ∙ ap (λ (cleared : List Bool). operated_by disk disk.control cleared
+        (performed c.out (plan_in n c) (start disk.blocks))) (cleared_moving disk c operation others here)
 
 -- Refused
 
@@ -102,12 +113,19 @@ abbrev control_once : ControlState → Command → Option Reply → ControlState
 control_once control c (Some reply) = refused_control control c
 control_once control c None = changed_control control c
 
--- the control after a command that is refused or makes no operation, and its reply
+abbrev cleared_once : ControlState → Command → Option Reply → List Bool
+cleared_once control c (Some reply) = no_nexuses
+cleared_once control c None = cleared_by control c
+
+-- the control after a command that is refused or makes no operation, its reply, and what it clears
 abbrev changed_once : ℕ → ControlState → Command → ControlState
 changed_once n control c = control_once control c (refusal_of control n c)
 
 abbrev replied_once : ℕ → ControlState → Command → Reply
 replied_once n control c = reply_once (data_of_unit control n c) (refusal_of control n c)
+
+abbrev clears_once : ℕ → ControlState → Command → List Bool
+clears_once n control c = cleared_once control c (refusal_of control n c)
 
 once_is : (n : ℕ) (control : ControlState) (blocks : List (List ℕ)) (c : Command) → length blocks ≡ n
     → IsOnce (refusal_of control n c) (plan_in n c)
@@ -115,7 +133,7 @@ once_is : (n : ℕ) (control : ControlState) (blocks : List (List ℕ)) (c : Com
     ≡ record {
       disk = record { control = changed_once n control c; blocks = blocks };
       reply = replied_once n control c;
-      cleared = no_nexuses;
+      cleared = clears_once n control c;
     }
 once_is n control blocks c sized h = go (refusal_of control n c) refl h
   where
@@ -127,7 +145,7 @@ once_is n control blocks c sized h = go (refusal_of control n c) refl h
         ≡ record {
           disk = record { control = control_once control c o; blocks = blocks };
           reply = reply_once (data_of_unit control n c) o;
-          cleared = no_nexuses;
+          cleared = cleared_once control c o;
         }
     go (Some reply) e h = refused_is disk c reply (subst (λ m. refusal_of control m c ≡ Some reply) (sym sized) e)
     go None e h =
@@ -136,7 +154,7 @@ once_is n control blocks c sized h = go (refusal_of control n c) refl h
         ∙ ap (λ (m : ℕ). record {
           disk = record { control = changed_control control c; blocks = blocks };
           reply = good (data_of_unit control m c);
-          cleared = no_nexuses;
+          cleared = cleared_by control c;
         }) sized
 
 once_law : (n : ℕ) (disk : Disk) (now : ControlState) (blocks : List (List ℕ)) (c : Command) → length disk.blocks ≡ n → length blocks ≡ n → now ≡ disk.control → IsOnce (refusal_of now n c) (plan_in n c) → Same disk now blocks c
@@ -146,7 +164,7 @@ once_law n disk now blocks c sized size e h =
     record {
       control = ap (λ (a : Execution). a.disk.control) there ∙ ap (λ k. changed_once n k c) (sym e) ∙ sym (ap (λ (a : Execution). a.disk.control) here);
       reply = ap (λ (a : Execution). a.reply) here ∙ ap (λ k. replied_once n k c) e ∙ sym (ap (λ (a : Execution). a.reply) there);
-      cleared = ap (λ (a : Execution). a.cleared) here ∙ sym (ap (λ (a : Execution). a.cleared) there);
+      cleared = ap (λ (a : Execution). a.cleared) here ∙ ap (λ k. clears_once n k c) e ∙ sym (ap (λ (a : Execution). a.cleared) there);
       disk_blocks = ap (λ (a : Execution). a.disk.blocks) there;
       blocks = ap (λ (a : Execution). a.disk.blocks) here;
     }
@@ -165,10 +183,11 @@ executions P disk c one two = go (refusal_of disk.control (length disk.blocks) c
 record Allows (before after : ControlState) : Type 0 where
   pages : after.pages ≡ before.pages
   started : after.is_started ≡ before.is_started
+  reservations : after.reservations ≡ before.reservations
   attentions : (nexus : Nexus) → first_code before.attentions nexus ≡ None → first_code after.attentions nexus ≡ None
 
 same_allows : (control : ControlState) → Allows control control
-same_allows control = record { pages = refl; started = refl; attentions = λ nexus none. none }
+same_allows control = record { pages = refl; started = refl; reservations = refl; attentions = λ nexus none. none }
 
 -- a check that lets one control's command begin lets another's
 spared_if : (test : Bool) (one other : Reply) → (if test then Some one else None) ≡ None
@@ -193,6 +212,12 @@ spared_reported before after nexus true allows none = go (first_code before.atte
     go None is none =
         ap (option_map (λ (condition : Code). check_condition after (sense_code_of condition) None))
         (allows.attentions nexus is)
+
+spared_reserved : (before after : ControlState) (nexus : Nexus) (asked : Class) → Allows before after
+    → reserved before nexus asked ≡ None → reserved after nexus asked ≡ None
+spared_reserved before after nexus asked allows none =
+    subst (λ (state : Reservations). (if is_allowed state nexus asked then None else Some reservation_conflict) ≡ None)
+    (sym allows.reservations) none
 
 spared_stopped : (before after : ControlState) (profile : Profile) → Allows before after
     → stopped before profile ≡ None → stopped after profile ≡ None
@@ -224,6 +249,20 @@ spared_protected before after profile allows none =
     (spared_if (profile.is_write && before.pages.protect) (check_condition before WRITE_PROTECTED None)
     (check_condition after WRITE_PROTECTED None) none)
 
+spared_action : (before after : ControlState) (nexus : Nexus) (out : List ℕ) (o : Op) → Allows before after
+    → faulty_action before nexus out o ≡ None → faulty_action after nexus out o ≡ None
+spared_action before after nexus out o allows none =
+    subst (λ (state : Reservations).
+    option_map (λ (fault : ResvFault). refused_action after (sense_code_of_resv_fault fault))
+    (action_fault state nexus out o) ≡ None) (sym allows.reservations)
+    (go (action_fault before.reservations nexus out o) none)
+  where
+    go : (fault : Option ResvFault)
+        → option_map (λ (fault : ResvFault). refused_action before (sense_code_of_resv_fault fault)) fault ≡ None
+        → option_map (λ (fault : ResvFault). refused_action after (sense_code_of_resv_fault fault)) fault ≡ None
+    go None none = refl
+    go (Some fault) none = absurd (cc)
+
 spared_by : (before after : ControlState) (n : ℕ) (nexus : Nexus) (out : List ℕ) (decoded : Result Cdb CdbFault)
     (profile : Profile) → Allows before after → refusal_by before n nexus out decoded profile ≡ None
     → refusal_by after n nexus out decoded profile ≡ None
@@ -231,16 +270,19 @@ spared_by before after n nexus out (Err fault) profile allows none = absurd (cc)
 spared_by before after n nexus out (Ok cdb) profile allows none =
     let built = first_parts (unbuilt before cdb.op) _ none in
     let told = first_parts (reported before nexus profile.reports_attention) _ built.1 in
-    let ready = first_parts (stopped before profile) _ told.1 in
+    let let_through = first_parts (reserved before nexus profile.class) _ told.1 in
+    let ready = first_parts (stopped before profile) _ let_through.1 in
     let current = first_parts (unsaved before cdb.op) _ ready.1 in
     let long = first_parts (short_of_data before (length out) profile) _ current.1 in
     let listed = first_parts (faulty_list before out cdb.op) _ long.1 in
     let inside = first_parts (out_of_range before n profile) _ listed.1 in
     let free = first_parts (write_protected before profile) _ inside.1 in
+    let accepted = first_parts (faulty_action before nexus out cdb.op) _ free.1 in
     first_none _ _
     (spared_unless (is_built cdb.op) (check_condition before INVALID_COMMAND_OPERATION_CODE None)
     (check_condition after INVALID_COMMAND_OPERATION_CODE None) built.0)
     (first_none _ _ (spared_reported before after nexus profile.reports_attention allows told.0)
+    (first_none _ _ (spared_reserved before after nexus profile.class allows let_through.0)
     (first_none _ _ (spared_stopped before after profile allows ready.0)
     (first_none _ _
     (spared_if (asks_saved cdb.op) (check_condition before SAVING_PARAMETERS_NOT_SUPPORTED None)
@@ -252,7 +294,8 @@ spared_by before after n nexus out (Ok cdb) profile allows none =
     (first_none _ _
     (spared_unless (list_all (is_inside n) profile.ranges) (check_condition before LBA_OUT_OF_RANGE None)
     (check_condition after LBA_OUT_OF_RANGE None) inside.0)
-    (first_none _ _ (spared_protected before after profile allows free.0) refl)))))))
+    (first_none _ _ (spared_protected before after profile allows free.0)
+    (first_none _ _ (spared_action before after nexus out cdb.op allows accepted.0) refl)))))))))
 
 allows_unrefused : (before after : ControlState) (n : ℕ) (a : Command) → Allows before after
     → refusal_of before n a ≡ None → refusal_of after n a ≡ None
@@ -272,6 +315,7 @@ taken_allows : (control : ControlState) (nexus : Nexus) → Allows control (atte
 taken_allows control nexus = record {
   pages = refl;
   started = refl;
+  reservations = refl;
   attentions = λ other none. ⊎_elim
       (λ (same : place_of other ≡ place_of nexus).
       let first : first_code control.attentions nexus ≡ None = first_at control.attentions nexus other same none in
@@ -294,6 +338,7 @@ changed_allows : (control : ControlState) (nexus : Nexus) (o : Op) (out : List �
 changed_allows control nexus (op.RequestSense descriptor allocation) out n same = taken_allows control nexus
 changed_allows control nexus (op.StartStopUnit start) out n same = absurd (cc)
 changed_allows control nexus (op.ModeSelect form list) out n same = absurd (cc)
+changed_allows control nexus (op.PersistentReserveOut asked list) out n same = absurd (cc)
 changed_allows control nexus _ out n same = same_allows control
 
 built_index : (built : Bool) (profile : Profile) → (built_row built profile).index ≡ profile.index
@@ -381,18 +426,43 @@ allowed_law unrestricted n a b x y disk apart moves none =
 sizes_law : (disk : Disk) (c : Command) → length (execute disk c).disk.blocks ≡ length disk.blocks
 sizes_law disk c = executions (λ d c e. length e.disk.blocks ≡ length d.blocks) disk c (λ reply. refl) (perform_size c.out (plan_in (length disk.blocks) c) (begun disk c))
 
-cleared_law : (disk : Disk) (c : Command) → (execute disk c).cleared ≡ no_nexuses
-cleared_law disk c = executions (λ d c e. e.cleared ≡ no_nexuses) disk c (λ reply. refl) refl
+-- Cleared
 
-contains_law : (nexus : Nexus) → contains no_nexuses nexus ≡ false
-unfolding no_nexuses
-contains_law nexus = none 256 (place_of nexus)
+-- what doesn't conflict with a command that moves blocks clears no nexus, nor does that command
+unclearing_law : (unrestricted : Bool) (n : ℕ) (a b : Command) (x y : Bool) (disk : Disk) (nexus : Nexus)
+    → conflicts unrestricted (held_by n a x) (held_by n b y) ≡ false → has_operations (plan_in n a) ≡ true
+    → contains (execute disk b).cleared nexus ≡ false
+unclearing_law unrestricted n a b x y disk nexus apart moves =
+    executions (λ d c e. (is_changing (profile_in n c).index ≡ false) → contains e.cleared nexus ≡ false) disk b
+    (λ reply same. none_contained nexus) (λ same. go (contains (cleared_by disk.control b) nexus) refl same)
+    (unchanging unrestricted n a b x y apart moves)
   where
-    none : (n place : ℕ) → slice_index_or (replicate n false) place false ≡ false
-    none n place = ⊎_elim
-        (λ (w : place < n). get_or-replicate n place false false w)
-        (λ (w : n ≤ place). get_or_past (replicate n false) place false (subst (λ m. m ≤ place) (sym (length-replicate n false)) w))
-        (cases_lt place n)
+    go : (clears : Bool) → contains (cleared_by disk.control b) nexus ≡ clears
+        → is_changing (profile_in n b).index ≡ false → contains (cleared_by disk.control b) nexus ≡ false
+    go true is same =
+        absurd (both_ways (is_changing (profile_in n b).index) same
+        (ap is_changing (clearing_index disk.control b n nexus is)))
+    go false is same = is
+
+moving_law : (n : ℕ) (disk : Disk) (c : Command) (nexus : Nexus) → length disk.blocks ≡ n
+    → has_operations (plan_in n c) ≡ true → contains (execute disk c).cleared nexus ≡ false
+moving_law n disk c nexus sized moves =
+    executions (λ d c e. (has_operations (plan_in (length d.blocks) c) ≡ true) → contains e.cleared nexus ≡ false) disk c
+    (λ reply moves. none_contained nexus) (λ moves. go (plan_in (length disk.blocks) c) refl moves)
+    (subst (λ m. has_operations (plan_in m c) ≡ true) (sym sized) moves)
+  where
+    go : (ops : List BlockOp) → plan_in (length disk.blocks) c ≡ ops → has_operations ops ≡ true
+        → contains (cleared_by disk.control c) nexus ≡ false
+    go [] planned_is moves = absurd (cc)
+    go (operation ∷ others) planned_is moves =
+        ap (λ set. contains set nexus) (cleared_moving disk c operation others planned_is) ∙ none_contained nexus
+
+told_law : (disk : Disk) (c : Command) (nexus : Nexus) → contains (execute disk c).cleared nexus ≡ true
+    → tells_aborts (execute disk c).disk.control ≡ tells_aborts disk.control
+told_law disk c nexus clears =
+    executions (λ d c e. (contains e.cleared nexus ≡ true) → tells_aborts e.disk.control ≡ tells_aborts d.control) disk c
+    (λ reply clears. absurd (both_ways (contains no_nexuses nexus) (none_contained nexus) clears))
+    (clearing_keeps_tas disk.control c nexus) clears
 
 -- a skip is no conflict
 skip_law : (unrestricted : Bool) (a b : Held) → skips a b ≡ true → conflicts unrestricted a b ≡ false
@@ -424,6 +494,7 @@ laws = record {
   sizes = sizes_law;
   skipped = skip_law;
   spared = spared_law;
-  cleared_none = cleared_law;
-  contains_none = contains_law;
+  unclearing = unclearing_law;
+  moving_clears = moving_law;
+  clears_told = told_law;
 }

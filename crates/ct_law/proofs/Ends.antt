@@ -164,12 +164,17 @@ begun Granted k = refl
 begun (There d g) k = refl
 begun Over k = refl
 
--- what is active doesn't conflict with a command that is ready
+-- what began doesn't conflict with a command that is ready
+pub ready_begun : (laws : Laws) (n : ℕ) (unrestricted : Bool) (tasks : List Task) (x y : Task) → IsSingle tasks → IsReady n unrestricted x tasks → Has tasks y → (y.no ≡ x.no → ⊥) → has_begun y.stage ≡ true →
+    conflicts unrestricted (held_of n y).held (held_of n x).held ≡ false
+ready_begun laws n unrestricted tasks x y single ready hy ne began =
+    let f = free_of n unrestricted true x tasks y ready hy ne (λ z hz k. single z y hz hy k) in
+    undemanded laws unrestricted f.0 (held_of n y).held (held_of n x).held f.1 began
+
 pub ready_free : (laws : Laws) (n : ℕ) (unrestricted : Bool) (tasks : List Task) (x y : Task) → IsSingle tasks → IsReady n unrestricted x tasks → Has tasks y → (y.no ≡ x.no → ⊥) → is_active y.stage ≡ true →
     conflicts unrestricted (held_of n y).held (held_of n x).held ≡ false
 ready_free laws n unrestricted tasks x y single ready hy ne b =
-    let f = free_of n unrestricted true x tasks y ready hy ne (λ z hz k. single z y hz hy k) in
-    undemanded laws unrestricted f.0 (held_of n y).held (held_of n x).held f.1 (begun y.stage b)
+    ready_begun laws n unrestricted tasks x y single ready hy ne (begun y.stage b)
 
 -- where reordering is restricted it goes apart from what is active
 pub begins_apart : (laws : Laws) (n : ℕ) (tasks : List Task) (x : Task) → IsSingle tasks → IsReady n false x tasks → (y : Task) → Has tasks y → (y.no ≡ x.no → ⊥) → is_active y.stage ≡ true → Apart (plan_in n x.command) (plan_in n y.command)

@@ -34,12 +34,13 @@ turned_so P o s journal n reply h u new within cause other closed = record {
   frame = record {
     each = each_more (LawfulAt o) [] journal e h.frame.each (record {
       once = λ m k. subst (λ i. has (is_entry i) journal ≡ false) (eqb-true n m k) u.entry;
+      typed = (cause.0, cause.1);
       orderly = tt;
+      plan = tt;
       prefix = tt;
       cells = tt;
       sound = cause;
       legal = λ r. cause;
-      by = tt;
     });
     works = h.frame.works ∙ sym (works_in-none journal e refl);
     size = h.frame.size;

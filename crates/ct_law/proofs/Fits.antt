@@ -22,18 +22,19 @@ use Rattle.ct_book.specs.declared.event.Kind2.TheVariants as kind
 use Rattle.ct_book.specs.declared.event.Why.TheVariants.{By, Medium}
 use Rattle.ct_book.specs.declared.event.Logged.{Logged}
 use Rattle.ct_book.specs.Journals.{KeptWork, numbered}
+use Rattle.ct_exec.specs.Controls.{tells_aborts}
 use Rattle.ct_exec.specs.Executions.{Execution, execute, refusal_of, plan_in, reply_failed}
 use Rattle.ct_machine.specs.declared.act.Act.{Act}
 use Rattle.ct_machine.specs.declared.act.Act.TheVariants as act
 use Rattle.ct_machine.specs.declared.act.Answer.TheVariants as answer
 use Rattle.ct_machine.specs.declared.act.Opening.{Opening}
 use Rattle.ct_machine.specs.States.{Stage, Waiting, Here, Granted, There, Over, Task, Open, Message, Arrival, State, opened, disk_of, arrival_of, task_of, function_of, is_here, is_moving, without_task, with_task, at_stage}
-use Rattle.ct_machine.specs.Events.{message, staged, cells_after, further, moved_from, moved_at, after_moved, after_ended, cut_at, after_cut, is_hit, is_told, taken_up, awaits_no_more, came_to_a, after_grant, came_to_b, after_came, after_enter, asked_for, after_asked, after_event, after}
+use Rattle.ct_machine.specs.Events.{executed_at_once, is_cleared, ended_at, message, staged, cells_after, further, moved_from, moved_at, after_moved, after_ended, cut_at, after_cut, is_hit, is_told, taken_up, awaits_no_more, came_to_a, after_grant, came_to_b, after_came, after_enter, asked_for, after_asked, after_event, after}
 use Rattle.ct_plan.specs.Pieces.{tried}
 use Rattle.ct_machine.specs.Acts.{Turn, nothing, writes, says, replies, followed, turned_cause, entering_with}
 use Rattle.ct_machine.specs.Acts.{outcome_of, puts_of, cutting, numbers_of, cutting_all, closing_if, closing}
 use Rattle.ct_machine.specs.Acts.{open_numbers, closing_all, taking_up, asking, moving_on, failing, failing_if}
-use Rattle.ct_machine.specs.Acts.{moved_to, moving_from, clearing_all, ending_at_once, is_granted, beginning_at}
+use Rattle.ct_machine.specs.Acts.{moved_to, moving_from, clearing, clearing_all, ending_at_once, is_granted, beginning_at}
 use Rattle.ct_machine.specs.Acts.{beginning, Done, next_number, has_room_for, arriving_at, arriving, blocked_by}
 use Rattle.ct_machine.specs.Acts.{beginning_unless, stepping_at, is_sent, stepping, taking_in, coming_in, coming_to_a}
 use Rattle.ct_machine.specs.Acts.{stopping_at, stopping, coming_to_b, delivering_first, messages_to, delivering}
@@ -44,14 +45,14 @@ use Rattle.ct_law.proofs.Tasks.{Has, has_found, has_without}
 use Rattle.ct_plan.proofs.Performing.{made_within}
 use Rattle.ct_law.proofs.Messages.{is_arrival, is_end}
 use Rattle.ct_law.proofs.Laws.{Laws}
-use Rattle.ct_law.proofs.Cleared.{clears_none}
+use Rattle.ct_law.proofs.Cleared.{Stands, stands_tail, stands_without, stands_whole, distinct_in, after_clearing, cleared_waits, count_cleared}
 use Rattle.ct_law.proofs.Commands
 use Rattle.ct_law.proofs.Execs.{tried_take}
 use Rattle.ct_law.proofs.Growing.{numbered_last}
 use Rattle.ct_law.proofs.Opens.{IsIn}
 use Rattle.ct_law.proofs.Runs.{cuts, run_induction}
-use Rattle.ct_law.proofs.Sends.{Fine, IsFine, Keeps, fine_free, fine_turning, fine_single, fine_other, fine_came_a, come_b, found_none, fine_act, fine_opened}
-use Rattle.ct_law.proofs.Weights.{weight, work_weight, arrival_weight, weigh, left, left_low, is_struck, can_end, total_fewer, found_with, found_itself, weigh_push, weigh_came, a_work, left_answered, left_begun, left_granted, left_grant, left_moved, left_ended, left_failed, left_stopped, left_cut, left_low-same, left_taken, left_closed, left_rejected, left_entered, found_function}
+use Rattle.ct_law.proofs.Sends.{one_if, Fine, IsFine, Keeps, fine_free, fine_turning, fine_single, fine_other, fine_came_a, come_b, found_none, fine_act, fine_opened}
+use Rattle.ct_law.proofs.Weights.{weight, work_weight, arrival_weight, weigh, left, left_low, is_struck, total_fewer, found_with, found_itself, weigh_push, weigh_came, a_work, left_answered, left_begun, left_granted, left_grant, left_moved, left_ended, left_at_once, left_cleared, left_failed, left_stopped, left_cut, left_low-same, left_taken, left_closed, left_rejected, left_entered, found_function}
 
 -- what a turn writes and leaves is covered by what was left, and by this much that was kept for it
 abbrev Costs : ℕ → ℕ → State → Turn → Type 0
@@ -65,10 +66,10 @@ costs_both n a b s t next h k = let e = length-append t.journal (next t.state).j
 
 -- Ends and moves
 
-costs_ended : (laws : Laws) (n : ℕ) (s : State) (number : ℕ) (x : Task) (reply : Reply) → IsFine n s → task_of number s.tasks ≡ Some x → can_end x.stage ≡ true → Costs n 0 s (replies (event.Ended number) reply s)
+costs_ended : (n : ℕ) (s : State) (number : ℕ) (x : Task) (reply : Reply) → IsFine n s → task_of number s.tasks ≡ Some x → is_moving x.stage ≡ true → Costs n 0 s (replies (event.Ended number) reply s)
 unfolding after
-costs_ended laws n s number x reply h f can =
-    let a : left n (after_ended (task_of number s.tasks) s) + 1 ≤ left n s = subst (λ o. left n (after_ended o s) + 1 ≤ left n s) (sym f) (left_ended laws n s number x h f can) in
+costs_ended n s number x reply h f can =
+    let a : left n (after_ended (task_of number s.tasks) s) + 1 ≤ left n s = subst (λ o. left n (after_ended o s) + 1 ≤ left n s) (sym f) (left_ended n s number x h f can) in
     omega (arith, a)
 
 costs_failed : (n : ℕ) (s : State) (number puts : ℕ) (told : Bool) (x : Task) (reply : Reply) → IsFine n s → task_of number s.tasks ≡ Some x → is_moving x.stage ≡ true → Costs n 0 s (replies (event.Cut number puts Medium told) reply s)
@@ -76,13 +77,6 @@ unfolding after
 costs_failed n s number puts told x reply h f can =
     let a : left n (after_cut Medium (task_of number s.tasks) s) + 1 ≤ left n s = subst (λ o. left n (after_cut Medium o s) + 1 ≤ left n s) (sym f) (left_failed n s number x h f can) in
     omega (arith, a)
-
-moving_ends : (stage : Stage) → is_moving stage ≡ true → can_end stage ≡ true
-moving_ends Waiting e = absurd (cc)
-moving_ends (Here done got) e = refl
-moving_ends (There done got) e = refl
-moving_ends Granted e = absurd (cc)
-moving_ends Over e = absurd (cc)
 
 costs_failing : (n : ℕ) (s : State) (task x : Task) (plan : List BlockOp) (done : ℕ) (found : Option BlockOp) → IsFine n s → task_of task.no s.tasks ≡ Some x → is_moving x.stage ≡ true → Costs n 0 s (failing task plan done found s)
 costs_failing n s task x plan done None h f can = omega arith
@@ -92,11 +86,11 @@ costs_failing_if : (n : ℕ) (s : State) (task x : Task) (plan : List BlockOp) (
 costs_failing_if n s task x plan done operations None h f can = omega arith
 costs_failing_if n s task x plan done operations (Some fault) h f can = costs_failing n s task x plan done (slice_get operations fault) h f can
 
-costs_moved_to : (laws : Laws) (n : ℕ) (s : State) (task x : Task) (difference : Option ℕ) (ended : Bool) (plan : List BlockOp) (done : ℕ) (got : List ℕ) (operations : List BlockOp) (fault : Option ℕ) → IsFine n s → task_of task.no s.tasks ≡ Some x → is_moving x.stage ≡ true →
+costs_moved_to : (n : ℕ) (s : State) (task x : Task) (difference : Option ℕ) (ended : Bool) (plan : List BlockOp) (done : ℕ) (got : List ℕ) (operations : List BlockOp) (fault : Option ℕ) → IsFine n s → task_of task.no s.tasks ≡ Some x → is_moving x.stage ≡ true →
     Costs n 0 s (moved_to difference ended task plan done got operations fault s)
-costs_moved_to laws n s task x (Some offset) ended plan done got operations fault h f can = costs_ended laws n s task.no x _ h f (moving_ends x.stage can)
-costs_moved_to laws n s task x None true plan done got operations fault h f can = costs_ended laws n s task.no x _ h f (moving_ends x.stage can)
-costs_moved_to laws n s task x None false plan done got operations fault h f can = costs_failing_if n s task x plan done operations fault h f can
+costs_moved_to n s task x (Some offset) ended plan done got operations fault h f can = costs_ended n s task.no x _ h f can
+costs_moved_to n s task x None true plan done got operations fault h f can = costs_ended n s task.no x _ h f can
+costs_moved_to n s task x None false plan done got operations fault h f can = costs_failing_if n s task x plan done operations fault h f can
 
 abbrev IsAt : Stage → ℕ → List ℕ → Type 0
 IsAt stage done got = (stage ≡ Here done got) ⊎ (stage ≡ There done got)
@@ -144,19 +138,58 @@ costs_moving_from laws n s task x count fault done got h f same i =
     let d = length-drop done plan in
     let e : length plan ≡ length (plan_in n x.command) = ap (λ m. length (plan_in m task.command)) h.sized ∙ ap (λ k. length (plan_in n k)) (sym same) in
     costs_moving_on laws n s task x progress.made done got (moved_to progress.difference (nat_le (length plan) (done + progress.made)) task plan (done + progress.made) progress.cells.got operations fault) h f i (omega (arith, a, b, c, d, e))
-    (λ t y fine found moving. costs_moved_to laws n t task y progress.difference (nat_le (length plan) (done + progress.made)) plan (done + progress.made) progress.cells.got operations fault fine found moving)
+    (λ t y fine found moving. costs_moved_to n t task y progress.difference (nat_le (length plan) (done + progress.made)) plan (done + progress.made) progress.cells.got operations fault fine found moving)
 
 -- Begins
+
+-- what a PREEMPT AND ABORT clears is cut, and each was left more than that
+
+costs_clearing : (n by : ℕ) (cleared : List Bool) (x : Task) (s : State) → task_of x.no s.tasks ≡ Some x → (rest : List Task) → Stands (x ∷ rest) s.tasks →
+    (length (clearing by cleared (task_of x.no s.tasks) s).journal + left n (clearing by cleared (task_of x.no s.tasks) s).state + one_if (is_cleared cleared x) ≤ left n s)
+    × Stands rest (clearing by cleared (task_of x.no s.tasks) s).state.tasks
+costs_clearing n by cleared x s f rest stands = subst Paid (sym f) (go (is_cleared cleared x) refl)
+  where
+    Paid : Option Task → Type 0
+    Paid found = (length (clearing by cleared found s).journal + left n (clearing by cleared found s).state + one_if (is_cleared cleared x) ≤ left n s) × Stands rest (clearing by cleared found s).state.tasks
+
+    cut : Turn
+    cut = says (event.Cut x.no 0 (By by) (tells_aborts s.control)) s
+
+    go : (t : Bool) → is_cleared cleared x ≡ t → (length (cond t cut (nothing s)).journal + left n (cond t cut (nothing s)).state + one_if t ≤ left n s) × Stands rest (cond t cut (nothing s)).state.tasks
+    go true e =
+        let waits : x.stage ≡ Waiting = cleared_waits cleared x e in
+        let is = after_clearing by (tells_aborts s.control) x s f waits in
+        let a : left n cut.state + 2 ≤ left n s = subst (λ u. left n u + 2 ≤ left n s) (sym is) (left_cleared n by s x f waits) in
+        (omega (arith, a), subst (λ u. Stands rest u.tasks) (sym is) (stands_without x rest s.tasks stands))
+    go false e = (omega arith, stands_tail x rest s.tasks stands)
+
+costs_clears : (n by : ℕ) (cleared : List Bool) (rest : List Task) (s : State) → Stands rest s.tasks →
+    length (clearing_all by cleared (numbers_of rest) s).journal + left n (clearing_all by cleared (numbers_of rest) s).state + count_cleared cleared rest ≤ left n s
+costs_clears n by cleared [] s stands = omega arith
+costs_clears n by cleared (x ∷ rest) s stands =
+    let first : Turn = clearing by cleared (task_of x.no s.tasks) s in
+    let one = costs_clearing n by cleared x s (stands.found x (inl refl)) rest stands in
+    let others = costs_clears n by cleared rest first.state one.1 in
+    let a = one.0 in
+    let e = length-append first.journal (clearing_all by cleared (numbers_of rest) first.state).journal in
+    omega (arith, a, others, e)
+
+once_is : (s : State) (l : Logged) (x : Task) → l.event ≡ event.Ended x.no → task_of x.no s.tasks ≡ Some x → x.stage ≡ Waiting → after s l ≡ executed_at_once x s
+unfolding after
+once_is s l x e f w = ap (λ v. after_event v l.work s) e ∙ ap (λ o. after_ended o s) f ∙ ap (λ st. ended_at st x s) w
 
 costs_at_once : (laws : Laws) (n : ℕ) (s : State) (x : Task) → IsFine n s → task_of x.no s.tasks ≡ Some x → x.stage ≡ Waiting → Costs n 0 s (ending_at_once x s)
 costs_at_once laws n s x h f e =
     let execution : Execution = execute (disk_of s) x.command in
-    let first : Turn = replies (event.Ended x.no) execution.reply s in
-    let none : clearing_all x.no execution.cleared (numbers_of first.state.tasks) first.state ≡ nothing first.state =
-    ap (λ c. clearing_all x.no c (numbers_of first.state.tasks) first.state) (laws.cleared_none (disk_of s) x.command) ∙ clears_none laws x.no (numbers_of first.state.tasks) first.state in
-    costs_both n 0 0 s first (λ ended. clearing_all x.no execution.cleared (numbers_of ended.tasks) ended)
-    (costs_ended laws n s x.no x execution.reply h f (ap can_end e))
-    (subst (Costs n 0 first.state) (sym none) (omega arith))
+    let l : Logged = record { event = event.Ended x.no; work = None; reply = Some execution.reply } in
+    let first : Turn = writes l s in
+    let is : first.state ≡ executed_at_once x s = once_is s l x refl f e in
+    let fine : IsFine n first.state = fine_free laws n s l refl h in
+    let stands = stands_whole first.state.tasks (distinct_in first.state.tasks (λ m. let k = fine.single m in omega (arith, k))) in
+    let a : left n first.state + 1 ≤ left n s + count_cleared execution.cleared first.state.tasks = subst (λ u. left n u + 1 ≤ left n s + count_cleared execution.cleared u.tasks) (sym is) (left_at_once n s x.no x f e) in
+    let b = costs_clears n x.no execution.cleared first.state.tasks first.state stands in
+    let c = length-append first.journal (clearing_all x.no execution.cleared (numbers_of first.state.tasks) first.state).journal in
+    omega (arith, a, b, c)
 
 begun_is : (s : State) (l : Logged) (x : Task) → l.event ≡ event.Begun x.no → task_of x.no s.tasks ≡ Some x → after s l ≡ staged (Here 0 []) (Some x) s
 unfolding after

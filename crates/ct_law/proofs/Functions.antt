@@ -24,7 +24,7 @@ use Rattle.ct_law.proofs.Orders.{orders_event}
 use Rattle.ct_law.proofs.Opens.{IsAsked, HasOpen, opens_event}
 use Rattle.ct_law.proofs.Inv.{LawfulAt, Frame, Inv, told, restricted_before, serial-same, cells_quiet}
 use Rattle.std.proofs.lemmas.Option.{same_Some}
-use Rattle.std.specs.List.{filter}
+use Rattle.std.specs.List.{filter, list_any}
 use Rattle.ct_tmf.specs.declared.function.Outcome.TheVariants.{Complete, Succeeded, Rejected}
 use Rattle.ct_tmf.specs.Reaches.{hits}
 use Rattle.ct_book.specs.Histories.{cut_by, set_of, set_by}
@@ -32,9 +32,9 @@ use Rattle.ct_exec.specs.Controls.{closing_control}
 use Rattle.ct_exec.specs.Executions.{refusal_of}
 use Rattle.ct_machine.specs.States.{is_here}
 use Rattle.ct_machine.specs.Events.{is_hit, is_awaited, awaited_by, wants_stop, stop, stops_by, is_told, taken_up, without_function, others_cut}
-use Rattle.ct_machine.specs.Acts.{outcome_of, numbers_of}
+use Rattle.ct_machine.specs.Acts.{is_sought, outcome_of, numbers_of}
 use Rattle.ct_machine.specs.Serial.{function_done}
-use Rattle.ct_machine.specs.Laws.{ClosesBehindAll, IsFunctionOf}
+use Rattle.ct_machine.specs.Laws.{ClosesBehindAll, IsFunctionOf, is_rejected}
 use Rattle.ct_law.proofs.Laws.{Laws}
 use Rattle.ct_law.proofs.Held.{rules_closes, closes_held}
 use Rattle.ct_law.proofs.Journal.{first_has, cut_more}
@@ -60,12 +60,13 @@ rejected_so P o s journal n node ask h u new within came = record {
   frame = record {
     each = each_more (LawfulAt o) [] journal e h.frame.each (record {
       once = λ m k. subst (λ i. has (is_entry i) journal ≡ false) (eqb-true n m k) u.entry;
+      typed = (ask, function_in P o s journal n node ask h.frame came, u.asking);
       orderly = tt;
+      plan = tt;
       prefix = λ a m c f g i j. absurd (both_ways (has (is_asked n) journal) u.asking j);
       cells = tt;
       sound = tt;
       legal = λ r. tt;
-      by = tt;
     });
     works = h.frame.works ∙ sym (works_in-none journal e refl);
     size = h.frame.size;
@@ -92,12 +93,13 @@ closes_so P laws o s journal p idle h hp none = record {
   frame = record {
     each = each_more (LawfulAt o) [] journal e h.frame.each (record {
       once = λ m k. subst (λ i. has (is_entry i) journal ≡ false) (eqb-true p.no m k) a.entry;
+      typed = (p.ask, in_journal, a.asking ∙ sym (ap not (unrejected (list_any (is_sought p.ask) s.tasks))));
       orderly = tt;
+      plan = tt;
       prefix = behind;
       cells = tt;
       sound = tt;
       legal = λ r. tt;
-      by = tt;
     });
     works = h.frame.works ∙ sym (works_in-none journal e refl);
     size = h.frame.size;
@@ -127,6 +129,10 @@ closes_so P laws o s journal p idle h hp none = record {
 
     in_journal : IsFunctionOf journal p.no p.ask
     in_journal = function_in P o s journal p.no a.node p.ask h.frame a.came
+
+    unrejected : (t : Bool) → is_rejected (cond t Succeeded Complete) ≡ false
+    unrejected true = refl
+    unrejected false = refl
 
     done : (t : Bool) (others : List Bool) → function_done (cond t Succeeded Complete) others (Some (work.Ask p.ask)) d ≡ record d { control = closing_control p.ask others d.control }
     done true others = refl
@@ -243,7 +249,7 @@ pub asked_so : (P : ℕ → ℕ → Type 0) (o : Opening) (s : State) (journal :
     numbered n s.arrivals ≡ Some (record { node = node; work = work.Ask ask }) → Inv (Due n ask s.tasks (numbers_of s.tasks)) o (taken_up n ask s) (journal ++ told (event.Asked n) ∷ [])
 asked_so P o s journal n node ask idle h u new within came = record {
   frame = record {
-    each = each_more (LawfulAt o) [] journal e h.frame.each (record { once = λ m k. absurd (cc); orderly = tt; prefix = tt; cells = tt; sound = tt; legal = λ r. tt; by = tt });
+    each = each_more (LawfulAt o) [] journal e h.frame.each (record { once = λ m k. absurd (cc); typed = (ask, function_in P o s journal n node ask h.frame came); orderly = tt; plan = tt; prefix = tt; cells = tt; sound = tt; legal = λ r. tt });
     works = h.frame.works ∙ sym (works_in-none journal e refl);
     size = h.frame.size;
     books = books;

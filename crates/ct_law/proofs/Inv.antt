@@ -6,8 +6,6 @@ use Rattle.ct_sense.specs.declared.reply.Reply.{Reply}
 use Rattle.ct_book.specs.declared.work.Work.TheVariants as work
 use Rattle.ct_book.specs.declared.event.Event.{Event}
 use Rattle.ct_book.specs.declared.event.Event.TheVariants as event
-use Rattle.ct_book.specs.declared.event.Why.TheVariants.{By}
-use Rattle.ct_tmf.specs.declared.function.Ask.{Ask}
 use Rattle.ct_book.specs.declared.event.Logged.{Logged}
 use Rattle.ct_book.specs.Journals.{numbered, works_in}
 use Rattle.ct_exec.specs.Controls.{Disk, is_unrestricted}
@@ -15,7 +13,7 @@ use Rattle.ct_machine.specs.declared.act.Opening.{Opening}
 use Rattle.ct_machine.specs.States.{Task, Stage, Waiting, Here, There, Arrival, State, is_waiting, has_begun}
 use Rattle.ct_machine.specs.Events.{works_of}
 use Rattle.ct_machine.specs.Serial.{disk_after, serial_disk}
-use Rattle.ct_machine.specs.Laws.{Each, has, is_entry, is_begin, is_enter, comes_first, IsCommandOf, IsFunctionOf, IsFirstEntry, goes_first, IsBehindAll, BeginsOrderly, RecordsPrefixAt, RepliesByCells, IsRestricted, IsLegalAt, IsSoundAt, Beside, beside, beside_after}
+use Rattle.ct_machine.specs.Laws.{Each, has, is_entry, is_begin, is_enter, comes_first, IsCommandOf, IsFirstEntry, goes_first, IsBehindAll, BeginsOrderly, RecordsPrefixAt, RepliesByCells, IsOfItsKind, MakesPlanAt, IsRestricted, IsLegalAt, IsSoundAt, Beside, beside, beside_after}
 use Rattle.ct_law.proofs.Tasks.{Has}
 use Rattle.ct_law.proofs.Laws.{Laws}
 use Rattle.ct_law.proofs.Held.{Rules, Holds}
@@ -27,20 +25,16 @@ use Rattle.ct_law.proofs.Books.{Books, is_over, arrival_for}
 use Rattle.ct_law.proofs.Orders.{Orders}
 use Rattle.ct_law.proofs.Opens.{Opens}
 
--- a cut is by a function, if it isn't the medium's
-abbrev pub IsCutByFunction : List Logged → Event → Type 0
-IsCutByFunction before (event.Cut number puts (By by) told) = (ask : Ask) × IsFunctionOf before by ask
-IsCutByFunction before _ = Unit {0}
-
 -- what a journal owes at an event
 pub record LawfulAt (o : Opening) (before : List Logged) (l : Logged) : Type 0 where
   pub once : IsFirstEntry before l
+  pub typed : IsOfItsKind before l.event
   pub orderly : BeginsOrderly o before l.event
+  pub plan : MakesPlanAt o before l.event
   pub prefix : RecordsPrefixAt o before l.event
   pub cells : RepliesByCells o before l.event l.reply
   pub sound : IsSoundAt o before l.event l.reply
   pub legal : IsRestricted o before → IsLegalAt o before l.event l.reply
-  pub by : IsCutByFunction before l.event
 
 -- all but the blocks and the control
 pub record Frame (P : ℕ → ℕ → Type 0) (o : Opening) (s : State) (journal : List Logged) : Type 0 where

@@ -1,27 +1,20 @@
 -- Every run is lawful.
-use Rattle.std.proofs.Common.{◌≡◌, ℕ, zero, suc, inl, inr, Bool, true, false, List, [], ◌∷◌, ◌++◌, Option, Some, None, map, drop, refl, sym, ap, ◌∙◌, subst}
-use Rattle.std.proofs.lemmas.Option.{same_Some}
+use Rattle.std.proofs.Common.{◌≡◌, ℕ, zero, suc, inl, inr, Bool, true, false, List, [], ◌∷◌, ◌++◌, Some, map, refl, ap, ◌∙◌, subst}
 use Rattle.std.specs.Prelude.{is_some, slice_get}
-use Rattle.std.specs.List.{filter}
 use Rattle.ct_book.specs.declared.work.Work.TheVariants as work
-use Rattle.ct_book.specs.declared.event.Event.{Event}
-use Rattle.ct_book.specs.declared.event.Event.TheVariants as event
-use Rattle.ct_book.specs.declared.event.Why.TheVariants.{By, Medium}
 use Rattle.ct_book.specs.declared.event.Logged.{Logged}
 use Rattle.ct_book.specs.Journals.{KeptWork, numbered}
 use Rattle.ct_exec.specs.Controls.{is_unrestricted}
 use Rattle.ct_machine.specs.declared.act.Opening.{Opening}
-use Rattle.ct_machine.specs.States.{Task, Arrival, State}
-use Rattle.ct_machine.specs.Acts.{numbers_of}
+use Rattle.ct_machine.specs.States.{Arrival, State}
 use Rattle.ct_machine.specs.Serial.{serial_disk}
 use Rattle.ct_machine.specs.Runs.{replay, IsRun}
-use Rattle.ct_machine.specs.Laws.{EachBehind, Each, has, is_entry, is_enter, work_in, IsQuiet, IsLegalAt, Due, is_of, due_by, due_after, due_behind, due_of, IsCutByCommand, IsTimelyAt, IsLawful}
+use Rattle.ct_machine.specs.Laws.{EachBehind, Each, has, is_entry, is_enter, work_in, IsQuiet, IsLegalAt, IsLawful}
 use Rattle.ct_law.proofs.Tasks.{Has}
 use Rattle.ct_law.proofs.Journal.{each_more}
 use Rattle.ct_law.proofs.Held.{idle_same}
 use Rattle.ct_law.proofs.Commands.{laws}
-use Rattle.ct_law.proofs.Cleared.{due_none}
-use Rattle.ct_law.proofs.Inv.{LawfulAt, IsCutByFunction}
+use Rattle.ct_law.proofs.Inv.{LawfulAt}
 use Rattle.ct_law.proofs.Books.{IsAsk}
 use Rattle.ct_law.proofs.Walk.{Now, NoneDue}
 use Rattle.ct_law.proofs.Comings.{every_run}
@@ -39,54 +32,6 @@ legal_behind o before (l ∷ journal) r rs h = (
   h.0.legal (record { each = r; last = rs.0 }),
   legal_behind o (before ++ l ∷ []) journal (each_more (λ b l. is_unrestricted (serial_disk o b).control ≡ false) [] before l r rs.0) rs.1 h.1,
 )
-
--- Nothing is ever due, since no command clears a nexus
-
-due_by_none : (o : Opening) (before : List Logged) (n : ℕ) (w : Option KeptWork) (tasks : List Task) → (due_by o before n w tasks).left ≡ []
-due_by_none o before n None tasks = refl
-due_by_none o before n (Some (work.Ask ask)) tasks = refl
-due_by_none o before n (Some (work.Cmd c)) tasks = ap (λ cleared. numbers_of (filter (is_of cleared) tasks)) (laws.cleared_none (serial_disk o before) c) ∙ ap numbers_of (due_none laws tasks)
-
-due_after_none : (o : Opening) (before : List Logged) (l : Logged) (e : Event) (due : Due) → due.left ≡ [] → (due_after o before l e due).left ≡ []
-due_after_none o before l (event.Ended n) due h = due_by_none o before n (work_in n before) (replay o (before ++ l ∷ [])).tasks
-due_after_none o before l (event.Cut n puts why told) due h = ap (λ left. drop 1 left) h
-due_after_none o before l (event.Came n node line) due h = h
-due_after_none o before l (event.Enter n) due h = h
-due_after_none o before l (event.Turned n) due h = h
-due_after_none o before l (event.Begun n) due h = h
-due_after_none o before l (event.Granted n) due h = h
-due_after_none o before l (event.Moved n count) due h = h
-due_after_none o before l (event.Asked n) due h = h
-due_after_none o before l (event.Closed n outcome) due h = h
-due_after_none o before l (event.Deliver node kind n) due h = h
-
-due_behind_none : (o : Opening) (before : List Logged) (due : Due) (journal : List Logged) → due.left ≡ [] → (due_behind o before due journal).left ≡ []
-due_behind_none o before due [] h = h
-due_behind_none o before due (l ∷ journal) h = due_behind_none o (before ++ l ∷ []) (due_after o before l l.event due) journal (due_after_none o before l l.event due h)
-
-nothing_due : (o : Opening) (journal : List Logged) → (due_of o journal).left ≡ []
-unfolding due_of
-nothing_due o journal = due_behind_none o [] (record { by = 0; told = false; left = [] }) journal refl
-
-not_by_command : (before : List Logged) (e : Event) → IsCutByFunction before e → IsCutByCommand before e → ⊥
-not_by_command before (event.Cut n puts (By by) told) f c =
-    let same : Some (work.Ask f.0) ≡ Some (work.Cmd c.0) = sym f.1 ∙ c.1 in
-    let z : work.Ask f.0 ≡ work.Cmd c.0 = same_Some _ _ same in
-    cc
-not_by_command before (event.Cut n puts Medium told) f c = c
-not_by_command before (event.Came n node line) f c = c
-not_by_command before (event.Enter n) f c = c
-not_by_command before (event.Turned n) f c = c
-not_by_command before (event.Begun n) f c = c
-not_by_command before (event.Granted n) f c = c
-not_by_command before (event.Moved n count) f c = c
-not_by_command before (event.Ended n) f c = c
-not_by_command before (event.Asked n) f c = c
-not_by_command before (event.Closed n outcome) f c = c
-not_by_command before (event.Deliver node kind n) f c = c
-
-timely_at : (o : Opening) (before : List Logged) (l : Logged) → LawfulAt o before l → IsTimelyAt before (due_of o before) (due_of o before).left l.event
-timely_at o before l h = subst (λ left. IsTimelyAt before (due_of o before) left l.event) (sym (nothing_due o before)) (not_by_command before l.event h.by)
 
 -- Where all is quiet, each work has its entry
 
@@ -130,10 +75,12 @@ lawful o journal run = record {
   legal = λ r. legal_behind o [] journal tt r.each each;
   sound = each_map (LawfulAt o) _ (λ before l h. h.sound) [] journal each;
   once = record { at_most = each_map (LawfulAt o) _ (λ before l h. h.once) [] journal each; all = over_when_quiet o journal run };
+  typed = each_map (LawfulAt o) _ (λ before l h. h.typed) [] journal each;
   orderly = each_map (LawfulAt o) _ (λ before l h. h.orderly) [] journal each;
+  plans = each_map (LawfulAt o) _ (λ before l h. h.plan) [] journal each;
   prefix = each_map (LawfulAt o) _ (λ before l h. h.prefix) [] journal each;
   cells = record { replies = each_map (LawfulAt o) _ (λ before l h. h.cells) [] journal each; blocks = now.inv.cells.blocks 0 };
-  timely = record { each = each_map (LawfulAt o) _ (λ before l h. timely_at o before l h) [] journal each; done = nothing_due o journal };
+  timely = record { each = now.schedule.timely; done = now.schedule.due };
   control = now.inv.rules.control;
   blocks = λ r none. idle_same o.blocks (serial_disk o journal) (replay o journal).blocks (replay o journal).tasks (now.inv.holds r) (λ x hx. absurd (subst (λ q. Has q x) none hx));
 }

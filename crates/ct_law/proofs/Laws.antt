@@ -10,7 +10,7 @@ use Rattle.ct_plan.specs.Cells.{performed}
 use Rattle.ct_matrix.specs.declared.held.Held.{Held}
 use Rattle.ct_matrix.specs.Conflicts.{conflicts, skips}
 use Rattle.ct_book.specs.declared.work.Command.{Command}
-use Rattle.ct_exec.specs.Controls.{ControlState, Disk, closing_control}
+use Rattle.ct_exec.specs.Controls.{ControlState, Disk, closing_control, tells_aborts}
 use Rattle.ct_exec.specs.Executions.{Execution, execute, refusal_of, plan_in, reply_moved}
 use Rattle.ct_machine.specs.States.{held_by}
 use Rattle.ct_law.proofs.Blocks.{uses, puts, start}
@@ -63,6 +63,8 @@ pub record Laws : Type 0 where
   pub skipped : (unrestricted : Bool) (a b : Held) → skips a b ≡ true → conflicts unrestricted a b ≡ false
   -- what a function doesn't hit it leaves allowed
   pub spared : (ask : Ask) (others : List Bool) (control : ControlState) (n : ℕ) (a : Command) → hits ask a.nexus a.tag ≡ false → refusal_of control n a ≡ None → refusal_of (closing_control ask others control) n a ≡ None
-  -- no command clears a nexus
-  pub cleared_none : (disk : Disk) (c : Command) → (execute disk c).cleared ≡ no_nexuses
-  pub contains_none : (nexus : Nexus) → contains no_nexuses nexus ≡ false
+  -- under either modifier what doesn't conflict with a command that moves blocks clears no nexus, nor does that command
+  pub unclearing : (unrestricted : Bool) (n : ℕ) (a b : Command) (x y : Bool) (disk : Disk) (nexus : Nexus) → conflicts unrestricted (held_by n a x) (held_by n b y) ≡ false → has_operations (plan_in n a) ≡ true → contains (execute disk b).cleared nexus ≡ false
+  pub moving_clears : (n : ℕ) (disk : Disk) (c : Command) (nexus : Nexus) → length disk.blocks ≡ n → has_operations (plan_in n c) ≡ true → contains (execute disk c).cleared nexus ≡ false
+  -- what clears a nexus leaves TAS
+  pub clears_told : (disk : Disk) (c : Command) (nexus : Nexus) → contains (execute disk c).cleared nexus ≡ true → tells_aborts (execute disk c).disk.control ≡ tells_aborts disk.control

@@ -11,7 +11,6 @@ pub mod Ready
 pub mod Held
 pub mod Execs
 pub mod Changed
-pub mod Cleared
 pub mod Ends
 pub mod Opens
 pub mod Inv
@@ -22,7 +21,11 @@ pub mod Overs
 mod Footprints
 pub mod Functions
 pub mod Runs
+pub mod Schedules
 pub mod Walk
+pub mod Sends
+pub mod Cleared
+pub mod Clears
 pub mod Turns
 pub mod Comings
 pub mod Arrivals
@@ -30,7 +33,6 @@ pub mod Complete
 pub mod Lawful
 pub mod Writes
 pub mod Busy
-pub mod Sends
 pub mod Live
 pub mod Weights
 pub mod Fits

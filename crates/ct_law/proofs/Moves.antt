@@ -28,7 +28,7 @@ use Rattle.ct_law.proofs.Inv.{serial-same, cells_event}
 use Rattle.ct_plan.specs.Cells.{Progress, performed}
 use Rattle.ct_exec.specs.Executions.{refusal_of, plan_in}
 use Rattle.ct_machine.specs.Events.{further}
-use Rattle.ct_machine.specs.Laws.{IsBehindAll, work_in, moved_beside, kept_if}
+use Rattle.ct_machine.specs.Laws.{IsBehindAll, IsCommandOf, work_in, moved_beside, kept_if}
 use Rattle.ct_law.proofs.Laws.{Laws, has_operations}
 use Rattle.ct_law.proofs.Blocks.{perform_alike}
 use Rattle.ct_law.proofs.Ready.{IsReady}
@@ -171,9 +171,12 @@ begun_so P laws o s journal x t idle h hx st ready none allowed moves = record {
     alone true p = (refl, refl)
     alone false p = (refl, refl)
 
+    known : IsCommandOf journal x.no x.command
+    known = known_in P o s journal x h.frame hx
+
     lawful : (t : Bool) → IsBehindAll o journal x.no → LawfulAt o journal (told (first_event t x.no))
-    lawful true b = record { once = λ m k. absurd (cc); orderly = b; prefix = tt; cells = tt; sound = tt; legal = λ r. tt; by = tt }
-    lawful false b = record { once = λ m k. absurd (cc); orderly = b; prefix = tt; cells = tt; sound = tt; legal = λ r. tt; by = tt }
+    lawful true b = record { once = λ m k. absurd (cc); typed = (x.command, known); orderly = b; plan = tt; prefix = tt; cells = tt; sound = tt; legal = λ r. tt }
+    lawful false b = record { once = λ m k. absurd (cc); typed = (x.command, known); orderly = b; plan = tt; prefix = tt; cells = tt; sound = tt; legal = λ r. tt }
 
 -- Moves
 
@@ -195,12 +198,13 @@ moves_so P o s journal x count done got h hx at = record {
     frame = record {
       each = each_more (LawfulAt o) [] journal e h.frame.each (record {
         once = λ m k. absurd (cc);
+        typed = (c, known_in P o s journal x h.frame hx);
         orderly = tt;
+        plan = (h.cells.gained x hx alive).difference;
         prefix = unended;
         cells = tt;
         sound = tt;
         legal = λ r. tt;
-        by = tt;
       });
       works = h.frame.works ∙ sym (works_in-none journal e refl);
       size = then_size n s.blocks c count done got ∙ h.frame.size;

@@ -2,6 +2,7 @@
 use Rattle.std.proofs.Common.{◌≡◌, ℕ, ◌≤◌, inl, inr, Bool, true, false, not, List, [], ◌∷◌, ◌++◌, Option, Some, None}
 use Rattle.std.proofs.Common.{length, refl, sym, ap, ◌∙◌, subst, ⊎_elim, arith, nat_eq, eqb-true, eq-eqb, ne_eqb, take}
 use Rattle.std.proofs.Common.{slice_get}
+use Rattle.std.specs.Prelude.{is_some}
 use Rattle.std.proofs.lemmas.Option.{same_Some}
 use Rattle.std.proofs.lemmas.Bool.{both_ways}
 use Rattle.ct_word.specs.declared.names.Node.{Node}
@@ -18,7 +19,7 @@ use Rattle.ct_exec.specs.Controls.{Disk, is_unrestricted}
 use Rattle.ct_machine.specs.declared.act.Opening.{Opening}
 use Rattle.ct_machine.specs.States.{Task, Waiting, Over, Open, Arrival, State, is_waiting, done_at, with_task, at_stage}
 use Rattle.ct_machine.specs.Serial.{disk_after, serial_disk}
-use Rattle.ct_machine.specs.Laws.{has, is_entry, is_begin, is_enter, is_asked, IsCommandOf, IsRestricted, beside}
+use Rattle.ct_machine.specs.Laws.{has, is_entry, is_begin, is_enter, is_asked, IsCommandOf, IsFunctionOf, IsRestricted, beside}
 use Rattle.ct_law.proofs.Tasks.{Has, with_itself}
 use Rattle.ct_law.proofs.Changed.{with_with}
 use Rattle.ct_law.proofs.Held.{Rules, Holds, is_active}
@@ -68,13 +69,18 @@ IsWhole n d s x found got =
 pub ends_so : (P : ℕ → ℕ → Type 0) (laws : Laws) (o : Opening) (s : State) (journal : List Logged) (x : Task)
     (done : ℕ) (got : List ℕ) (found : Option ℕ) → Others P o s journal x.no → Has s.tasks x → IsAt x.stage done got →
     Gained (beside o x.no journal) found got →
+    (found ≡ None → made_by x.no journal ≡ length (plan_in o.blocks x.command)) →
     (IsRestricted o journal → IsWhole o.blocks (serial_disk o journal) s x found got) →
     Inv P o (over_alone s x) (journal ++ replied (event.Ended x.no) (reply_moved s.control found got) ∷ [])
-ends_so P laws o s journal x done got found h hx at gained held =
+ends_so P laws o s journal x done got found h hx at gained made held =
     entry_so P o s journal x e s.functions s.control s.blocks h hx b.0 (record {
       lawful = record {
         once = once_entry x.no journal (unended P o s journal x h.frame hx b.0);
+        typed = (x.command, known);
         orderly = λ k. absurd (both_ways _ k begun);
+        plan = λ k none c w.
+            subst (λ z. made_by x.no journal ≡ length (plan_in o.blocks z)) (same_command c w)
+            (made (sym gained.difference ∙ none));
         prefix = tt;
         cells = λ k. ap Some (ap (λ c. reply_moved c found got) h.rules.control
             ∙ ap (λ g. reply_moved d.control found g) (sym gained.got)
@@ -85,7 +91,6 @@ ends_so P laws o s journal x done got found h hx at gained held =
               subst (λ z. refusal_of d.control o.blocks z ≡ None) (same_command c w) (h.rules.allowed x hx active).0,
         );
         legal = λ r. (x.command, known, ap Some (held r).1);
-        by = tt;
       };
       entry = eq-eqb x.no x.no refl;
       no_work = refl;
@@ -123,11 +128,15 @@ ends_so P laws o s journal x done got found h hx at gained held =
 -- one that has made all its operations
 pub ended_so : (P : ℕ → ℕ → Type 0) (laws : Laws) (o : Opening) (s : State) (journal : List Logged) (x : Task)
     (done : ℕ) (got : List ℕ) → Inv P o s journal → Has s.tasks x → IsAt x.stage done got →
-    length (plan_in o.blocks x.command) ≤ done →
+    length (plan_in o.blocks x.command) ≤ done → done ≤ length (plan_in o.blocks x.command) →
     Inv P o (over_alone s x) (journal ++ replied (event.Ended x.no) (reply_moved s.control None got) ∷ [])
-ended_so P laws o s journal x done got h hx at whole =
+ended_so P laws o s journal x done got h hx at whole within =
     ends_so P laws o s journal x done got None (others_of P o s journal x.no h) hx at
-    (record { got = gained.got ∙ b.2; difference = gained.difference }) held
+    (record { got = gained.got ∙ b.2; difference = gained.difference })
+    (λ k.
+    let made = h.frame.books.made x hx b.0 in
+    let is = at_done x.stage done got at in
+    omega (arith, made, is, whole, within)) held
   where
     d : Disk
     d = serial_disk o journal
@@ -155,7 +164,7 @@ pub differed_so : (P : ℕ → ℕ → Type 0) (laws : Laws) (o : Opening) (s : 
 differed_so P laws o s journal x count done got offset h hx at differs =
     ends_so P laws o now (journal ++ e ∷ []) w p.made p.cells.got (Some offset) moved.others
     (with_itself w s.tasks x hx refl) (at_further x.stage done got p.made p.cells.got at)
-    (record { got = moved.gained.got; difference = moved.gained.difference ∙ differs }) held
+    (record { got = moved.gained.got; difference = moved.gained.difference ∙ differs }) (λ k. absurd (cc)) held
   where
     n : ℕ
     n = length s.blocks
@@ -211,12 +220,13 @@ once_ends P laws o s journal x h hx st ready is_once =
     (ap is_over st) (record {
       lawful = record {
         once = once_entry x.no journal (unended P o s journal x h.frame hx (ap is_over st));
+        typed = (x.command, known);
         orderly = λ k. in_order P laws o s journal x h hx st ready;
+        plan = λ k. absurd (both_ways _ unbegun k);
         prefix = tt;
         cells = λ k. absurd (both_ways _ unbegun k);
         sound = (λ k. as_executed, λ c w k. absurd (both_ways _ unbegun k));
         legal = λ r. as_executed;
-        by = tt;
       };
       entry = eq-eqb x.no x.no refl;
       no_work = refl;
@@ -294,12 +304,13 @@ pub medium_so : (P : ℕ → ℕ → Type 0) (o : Opening) (s : State) (journal 
 medium_so P o s journal x done got operation h hx at failed =
     cut_so P o s journal x e Medium false s.functions h hx b.0 refl refl (record {
       once = once_entry x.no journal (unended P o s journal x h.frame hx b.0);
+      typed = (x.command, known_in P o s journal x h.frame hx);
       orderly = tt;
+      plan = (h.cells.gained x hx b.0).difference;
       prefix = (prefix_of P o s journal x h.frame hx b.0, tt);
       cells = tt;
       sound = cause;
       legal = λ r. cause;
-      by = tt;
     })
     (own_alone P o s journal x e.event h.frame hx (λ m. refl) (λ m i. i))
     (opens_alone P o s journal x e h.frame hx (λ p hp ne. (ne_eqb x.no p.no ne, refl)))
@@ -326,12 +337,13 @@ pub by_so : (P : ℕ → ℕ → Type 0) (o : Opening) (s : State) (journal : Li
 by_so P o s journal x f node ask told_so h hx alive came hit asked unclosed =
     cut_so P o s journal x e (By f) told_so (noted f x.no s.functions) h hx alive refl refl (record {
       once = once_entry x.no journal (unended P o s journal x h.frame hx alive);
+      typed = ((x.command, known_in P o s journal x h.frame hx), ap is_some in_journal);
       orderly = tt;
+      plan = (h.cells.gained x hx alive).difference;
       prefix = (prefix_of P o s journal x h.frame hx alive, λ a w. (asked, unclosed));
       cells = tt;
       sound = cause;
       legal = λ r. cause;
-      by = (ask, in_journal);
     })
     (record {
       enters = λ m. refl;
@@ -362,3 +374,44 @@ by_so P o s journal x f node ask told_so h hx alive came hit asked unclosed =
           let same : ask ≡ a = cc in
           subst (λ z. hits z x.command.nexus x.command.tag ≡ true) same hit,
     )
+
+-- or by a PREEMPT AND ABORT that ended, while it waits
+pub cleared_so : (P : ℕ → ℕ → Type 0) (o : Opening) (s : State) (journal : List Logged) (x : Task) (n : ℕ) (c : Command) (told_so : Bool) → Inv P o s journal → Has s.tasks x → x.stage ≡ Waiting →
+    IsCommandOf journal n c → has (is_enter n) journal ≡ true → ((y : Task) → Has s.tasks y → y.no ≡ n → ⊥) →
+    Inv P o (over_state s x (noted n x.no s.functions) s.control s.blocks) (journal ++ told (event.Cut x.no 0 (By n) told_so) ∷ [])
+cleared_so P o s journal x n c told_so h hx waits by entered gone =
+    subst (λ puts. Inv P o (over_state s x (noted n x.no s.functions) s.control s.blocks) (journal ++ told (event.Cut x.no puts (By n) told_so) ∷ [])) none
+    (cut_so P o s journal x e (By n) told_so (noted n x.no s.functions) h hx alive refl refl (record {
+      once = once_entry x.no journal (unended P o s journal x h.frame hx alive);
+      typed = ((x.command, known_in P o s journal x h.frame hx), ap is_some by);
+      orderly = tt;
+      plan = (h.cells.gained x hx alive).difference;
+      prefix = (prefix_of P o s journal x h.frame hx alive, λ a w. absurd (no_function a w));
+      cells = tt;
+      sound = cause;
+      legal = λ r. cause;
+    })
+    (record {
+      enters = λ m. refl;
+      mine = λ m i. ⊎_elim inl (λ (k : n ≡ m). inr (λ y hy z. gone y hy (z ∙ sym k))) i;
+      old = λ m k i. ⊎_elim
+          (λ (z : x.no ≡ m). both_ways (has (is_enter m) journal) (h.frame.books.fresh m k).enter (subst (λ j. has (is_enter j) journal ≡ true) z (h.frame.books.entered x hx)))
+          (λ (z : n ≡ m). both_ways (has (is_enter m) journal) (h.frame.books.fresh m k).enter (subst (λ j. has (is_enter j) journal ≡ true) z entered)) i;
+    })
+    (opens_cut P journal s.arrivals s.tasks s.functions s.to_a s.to_b x.no (puts_at o.blocks x) n told_so e refl (not_open P o s journal x h.frame hx) h.frame.opens))
+  where
+    e : Logged
+    e = told (event.Cut x.no (puts_at o.blocks x) (By n) told_so)
+
+    alive : is_over x.stage ≡ false
+    alive = ap is_over waits
+
+    -- it put nothing
+    none : puts_at o.blocks x ≡ 0
+    none = ap (λ stage. puts_among (take (done_at stage) (plan_in o.blocks x.command))) waits
+
+    no_function : (a : Ask) → IsFunctionOf journal n a → ⊥
+    no_function a w = let same : work.Cmd c ≡ work.Ask a = same_Some _ _ (sym by ∙ w) in cc
+
+    cause : IsCutFor o journal x.no (By n) None
+    cause = (x.command, known_in P o s journal x h.frame hx, λ a w. absurd (no_function a w))

@@ -16,11 +16,13 @@ use Rattle.ct_machine.specs.declared.act.Opening.{Opening}
 use Rattle.ct_machine.specs.States.{Task, Message, Arrival, State, arrival_of, queued}
 use Rattle.ct_machine.specs.Events.{message, to_b_if, came_at_b, answered, new_task}
 use Rattle.ct_machine.specs.Serial.{serial_disk}
-use Rattle.ct_machine.specs.Laws.{has, is_entry, is_enter, IsRestricted, beside}
+use Rattle.ct_machine.specs.Acts.{turned_cause}
+use Rattle.ct_machine.specs.Runs.{replay}
+use Rattle.ct_machine.specs.Laws.{has, is_entry, is_enter, IsCommandOf, IsRestricted, beside}
 use Rattle.ct_law.proofs.Tasks.{Has, has_queued}
 use Rattle.ct_law.proofs.Held.{Rules, Holds, is_active, rules_in, enters_held}
 use Rattle.ct_law.proofs.Journal.{each_more, has_same, has_stays, has_more, quiet, Untouched, untouched_more}
-use Rattle.ct_law.proofs.Growing.{works_in-more, works_in-none}
+use Rattle.ct_law.proofs.Growing.{numbered-map, works_in-more, works_in-none}
 use Rattle.ct_law.proofs.Messages.{is_end, is_stop, Sent, stop_other}
 use Rattle.ct_law.proofs.Books.{Books, IsAsk, books_in}
 use Rattle.ct_law.proofs.Orders.{orders_event, orders_in}
@@ -73,7 +75,7 @@ pub came_so : (P : ℕ → ℕ → Type 0) (o : Opening) (s : State) (journal : 
     Inv P o (came_with s (record { node = node; work = w }) room to_a) (journal ++ arrived n node w ∷ [])
 came_so P o s journal n node w room to_a next h comes = record {
   frame = record {
-    each = each_more (LawfulAt o) [] journal e h.frame.each (record { once = λ m k. absurd (cc); orderly = tt; prefix = tt; cells = tt; sound = tt; legal = λ r. tt; by = tt });
+    each = each_more (LawfulAt o) [] journal e h.frame.each (record { once = λ m k. absurd (cc); typed = tt; orderly = tt; plan = tt; prefix = tt; cells = tt; sound = tt; legal = λ r. tt });
     works = map-append (λ (a : Arrival). a.work) s.arrivals (arrival ∷ []) ∙ ap (λ ws. ws ++ w ∷ []) h.frame.works ∙ sym (works_in-more journal e (Some w) refl);
     size = h.frame.size;
     books = comes.books;
@@ -95,10 +97,10 @@ came_so P o s journal n node w room to_a next h comes = record {
 
 -- a command enters
 pub enter_so : (P : ℕ → ℕ → Type 0) (o : Opening) (s : State) (journal : List Logged) (n : ℕ) (node : Node) (c : Command) → Inv P o s journal → Untouched n journal → (IsAsk n s.to_a → ⊥) →
-    numbered n s.arrivals ≡ Some (record { node = node; work = work.Cmd c }) → Inv P o (record s { tasks = queued (new_task n node c) s.tasks }) (journal ++ told (event.Enter n) ∷ [])
-enter_so P o s journal n node c h u new at = record {
+    numbered n s.arrivals ≡ Some (record { node = node; work = work.Cmd c }) → turned_cause (replay o journal) c ≡ None → Inv P o (record s { tasks = queued (new_task n node c) s.tasks }) (journal ++ told (event.Enter n) ∷ [])
+enter_so P o s journal n node c h u new at free = record {
   frame = record {
-    each = each_more (LawfulAt o) [] journal e h.frame.each (record { once = λ m k. absurd (cc); orderly = tt; prefix = tt; cells = tt; sound = tt; legal = λ r. tt; by = tt });
+    each = each_more (LawfulAt o) [] journal e h.frame.each (record { once = λ m k. absurd (cc); typed = (c, known); orderly = tt; plan = tt; prefix = tt; cells = tt; sound = (c, known, free); legal = λ r. tt });
     works = h.frame.works ∙ sym (works_in-none journal e refl);
     size = h.frame.size;
     books = books_in journal s.arrivals s.tasks s.to_a w e refl h.frame.books refl u new at;
@@ -124,6 +126,9 @@ enter_so P o s journal n node c h u new at = record {
 
     w : Task
     w = new_task n node c
+
+    known : IsCommandOf journal n c
+    known = ap (numbered n) (sym h.frame.works) ∙ numbered-map (λ (a : Arrival). a.work) n s.arrivals _ at
 
     other : (y : Task) → Has s.tasks y → y.no ≡ n → ⊥
     other y hy k = both_ways (has (is_enter n) journal) u.enter (subst (λ m. has (is_enter m) journal ≡ true) k (h.frame.books.entered y hy))

@@ -8,13 +8,14 @@ use Rattle.ct_tmf.specs.declared.function.Ask.{Ask}
 use Rattle.ct_book.specs.declared.work.Command.{Command}
 use Rattle.ct_book.specs.declared.work.Work.TheVariants as work
 use Rattle.ct_book.specs.declared.event.Event.TheVariants as event
+use Rattle.ct_book.specs.declared.event.Kind2.{Kind2}
 use Rattle.ct_book.specs.declared.event.Kind2.TheVariants as kind
 use Rattle.ct_book.specs.declared.event.Why.TheVariants.{By}
 use Rattle.ct_book.specs.declared.event.Logged.{Logged}
 use Rattle.ct_book.specs.Journals.{numbered}
 use Rattle.ct_machine.specs.declared.act.Opening.{Opening}
 use Rattle.ct_machine.specs.States.{Task, Stage, Waiting, Here, Granted, There, Over, Open, Arrival, State, arrival_of, without_task, with_task, at_stage, queued}
-use Rattle.ct_machine.specs.Events.{answered, new_task}
+use Rattle.ct_machine.specs.Events.{answered, came_at_b, message, new_task, to_b_if}
 use Rattle.ct_machine.specs.Laws.{has, is_entry, is_enter, is_asked, IsCommandOf}
 use Rattle.ct_law.proofs.Tasks.{Has, has_without}
 use Rattle.ct_law.proofs.Journal.{has_not, has_now, has_stays, Untouched}
@@ -29,22 +30,21 @@ use Rattle.ct_tmf.specs.declared.function.Outcome.TheVariants.{Rejected}
 use Rattle.ct_machine.specs.States.{function_of, task_of, is_here}
 use Rattle.ct_machine.specs.Events.{after, after_enter, is_hit, is_told, taken_up, after_cut, cut_at as cut_from, closed, after_asked, noted}
 use Rattle.ct_machine.specs.Acts.{outcome_of, Turn, nothing, writes, says, followed, turned_cause, entering_with, entering, puts_of, cutting, numbers_of, cutting_all, closing_if, closing, closing_all, taking_up, asking}
-use Rattle.ct_machine.specs.Runs.{replay}
 use Rattle.ct_law.proofs.Laws.{Laws}
 use Rattle.ct_law.proofs.Held.{IsSingle}
 use Rattle.ct_law.proofs.Tasks.{has_found}
-use Rattle.ct_law.proofs.Growing.{replay-more}
 use Rattle.ct_law.proofs.Opens.{IsIn, opens_less}
 use Rattle.ct_law.proofs.Steps.{answers, enter_so}
 use Rattle.ct_law.proofs.Ends.{puts_at}
 use Rattle.ct_law.proofs.Entries.{turned_so, leaves_so}
 use Rattle.ct_law.proofs.Overs.{by_so}
-use Rattle.ct_law.proofs.Functions.{IsDue, Due, rejected_so, closes_so, asked_so}
+use Rattle.ct_law.proofs.Functions.{IsDue, Due, function_in, rejected_so, closes_so, asked_so}
+use Rattle.ct_law.proofs.Schedules.{Scheduled, Worked, IsUntimed, goes_on, worked_without, worked_queued, untimed, untimed_by}
 
--- what holds of a state behind a journal, which is its replay
+-- what holds of a state behind a journal
 pub record Now (P : ℕ → ℕ → Type 0) (o : Opening) (s : State) (journal : List Logged) : Type 0 where
   pub inv : Inv P o s journal
-  pub at : s ≡ replay o journal
+  pub schedule : Scheduled o s journal
 
 -- and of a turn behind it
 abbrev pub After : (ℕ → ℕ → Type 0) → Opening → List Logged → Turn → Type 0
@@ -60,15 +60,30 @@ stays_so P o s journal h = subst (λ j. Now P o s j) (sym (append-nil journal)) 
 pub then_so : (P : ℕ → ℕ → Type 0) (o : Opening) (journal : List Logged) (t : Turn) (next : State → Turn) → After P o (journal ++ t.journal) (next t.state) → After P o journal (followed t next)
 then_so P o journal t next h = subst (λ j. Now P o (next t.state).state j) (append_assoc journal t.journal (next t.state).journal) h
 
-pub replayed : (o : Opening) (s : State) (journal : List Logged) (l : Logged) →
-    s ≡ replay o journal → after s l ≡ replay o (journal ++ l ∷ [])
-replayed o s journal l at = ap (λ t. after t l) at ∙ sym (replay-more o journal l)
-
 -- one event, in the state that it leaves
-pub wrote : (P : ℕ → ℕ → Type 0) (o : Opening) (s now : State) (journal : List Logged) (l : Logged) →
-    s ≡ replay o journal → after s l ≡ now → Inv P o now (journal ++ l ∷ []) → After P o journal (writes l s)
-wrote P o s now journal l at e inv =
-    record { inv = subst (λ t. Inv P o t (journal ++ l ∷ [])) (sym e) inv; at = replayed o s journal l at }
+pub wrote : (P : ℕ → ℕ → Type 0) (o : Opening) (s now : State) (journal : List Logged) (l : Logged) → Scheduled o s journal → after s l ≡ now → Inv P o now (journal ++ l ∷ []) → Worked o.blocks now.tasks → IsUntimed o journal l → After P o journal (writes l s)
+wrote P o s now journal l h e inv worked untimed = record {
+  inv = subst (λ t. Inv P o t (journal ++ l ∷ [])) (sym e) inv;
+  schedule = subst (λ t. Scheduled o t (journal ++ l ∷ [])) (sym e) (goes_on o s now journal l h e worked untimed);
+}
+
+-- what came at B is answered there, and the task set stays
+pub answered_tasks : (k : Kind2) (n : ℕ) (s : State) → (answered k n s).tasks ≡ s.tasks
+answered_tasks k n s = go (came_at_b (arrival_of n s))
+  where
+    go : (t : Bool) → (to_b_if t (message k n) s).tasks ≡ s.tasks
+    go true = refl
+    go false = refl
+
+pub answered_still : (k : Kind2) (n : ℕ) (s : State) → s.functions ≡ [] → (answered k n s).functions ≡ [] × ((answered k n s).control ≡ s.control)
+answered_still k n s closed = go (came_at_b (arrival_of n s))
+  where
+    go : (t : Bool) → (to_b_if t (message k n) s).functions ≡ [] × ((to_b_if t (message k n) s).control ≡ s.control)
+    go true = (closed, refl)
+    go false = (closed, refl)
+
+pub worked_answered : (n : ℕ) (k : Kind2) (number : ℕ) (s : State) → Worked n s.tasks → Worked n (answered k number s).tasks
+worked_answered n k number s h = subst (λ q. Worked n q) (sym (answered_tasks k number s)) h
 
 -- what a number is, that has come and of which nothing was said yet
 pub record Fresh (s : State) (journal : List Logged) (n : ℕ) : Type 0 where
@@ -99,12 +114,15 @@ entering_so o s journal n node c h f came = go (turned_cause s c) refl
     known = ap (numbered n) (sym h.inv.frame.works) ∙ numbered-map (λ (a : Arrival). a.work) n s.arrivals _ came
 
     go : (cause : Option Reply) → turned_cause s c ≡ cause → After NoneDue o journal (entering_with cause n s)
-    go None e = wrote NoneDue o s _ journal (told (event.Enter n)) h.at (after_entered n node c s came)
-        (enter_so NoneDue o s journal n node c h.inv f.untouched f.unasked came)
-    go (Some reply) e = wrote NoneDue o s _ journal (replied (event.Turned n) reply) h.at (after_turned n reply s)
+    go None e = wrote NoneDue o s _ journal (told (event.Enter n)) h.schedule (after_entered n node c s came)
+        (enter_so NoneDue o s journal n node c h.inv f.untouched f.unasked came (ap (λ t. turned_cause t c) (sym h.schedule.at) ∙ e))
+        (worked_queued o.blocks s.tasks (new_task n node c) h.schedule.worked refl)
+        (untimed o journal (told (event.Enter n)) refl)
+    go (Some reply) e = wrote NoneDue o s _ journal (replied (event.Turned n) reply) h.schedule (after_turned n reply s)
         (answers NoneDue o s (journal ++ replied (event.Turned n) reply ∷ []) kind.Reply n refl
-        (turned_so NoneDue o s journal n reply h.inv f.untouched f.unasked f.within (c, known, sym e ∙ ap (λ t. turned_cause t c) h.at, refl)
+        (turned_so NoneDue o s journal n reply h.inv f.untouched f.unasked f.within (c, known, sym e ∙ ap (λ t. turned_cause t c) h.schedule.at, refl)
         (fresh_other NoneDue o s journal n h.inv f) (fresh_closed NoneDue o s journal n h.inv f)))
+        (worked_answered o.blocks kind.Reply n s h.schedule.worked) (untimed o journal (replied (event.Turned n) reply) refl)
 
 -- Closing
 
@@ -128,9 +146,11 @@ pub closing_so : (laws : Laws) (o : Opening) (s : State) (journal : List Logged)
 closing_so laws o s journal n h = go (function_of n s.functions) refl
   where
     empty : (ns : List ℕ) (p : Open) → p.awaits ≡ ns → HasOpen s.functions p → function_of p.no s.functions ≡ Some p → After NoneDue o journal (closing_if ns p s)
-    empty [] p e hp found = wrote NoneDue o s _ journal (told (event.Closed p.no (outcome_of p.ask s))) h.at
+    empty [] p e hp found = wrote NoneDue o s _ journal (told (event.Closed p.no (outcome_of p.ask s))) h.schedule
         (after_closing p.no (outcome_of p.ask s) (Some p) s found)
         (answers NoneDue o (closed (Some p) s) (journal ++ told (event.Closed p.no (outcome_of p.ask s)) ∷ []) kind.Response p.no refl (closes_so NoneDue laws o s journal p (λ f m k. k) h.inv hp e))
+        (worked_answered o.blocks kind.Response p.no (closed (Some p) s) h.schedule.worked)
+        (untimed o journal (told (event.Closed p.no (outcome_of p.ask s))) refl)
     empty (m ∷ ms) p e hp found = stays_so NoneDue o s journal h
 
     go : (found : Option Open) → function_of n s.functions ≡ found → After NoneDue o journal (closing found s)
@@ -194,7 +214,7 @@ less o start s journal n node ask m ms h c gone = record {
     cells = h.inv.cells;
     holds = h.inv.holds;
   };
-  at = h.at;
+  schedule = h.schedule;
 }
   where
     over : IsDue ask start m → has (is_entry m) journal ≡ true
@@ -258,7 +278,8 @@ cut_one o start s journal n node ask m ms x h c hx xm found hit here = record {
     left = leaves_so (Due n ask start (m ∷ ms)) o s journal' x (noted n x.no s.functions) s.control s.blocks (has_now (is_entry x.no) journal e (eq-eqb x.no x.no refl)) over
 
     now : Now (Due n ask start (m ∷ ms)) o t journal'
-    now = wrote _ o s _ journal e h.at state left
+    now = wrote _ o s _ journal e h.schedule state left (worked_without o.blocks x.no s.tasks h.schedule.worked)
+        (untimed_by o journal e x.no (puts_of x s) n (is_told s ask x) ask refl (function_in _ o s journal n node ask h.inv.frame c.came))
 
     other : x.no ≡ n → ⊥
     other k =
@@ -314,7 +335,7 @@ none_due o start s journal n ask h = record {
     cells = h.inv.cells;
     holds = h.inv.holds;
   };
-  at = h.at;
+  schedule = h.schedule;
 }
 
 after_taken_up : (n : ℕ) (node : Node) (ask : Ask) (s : State) → arrival_of n s ≡ Some (record { node = node; work = work.Ask ask }) → after s (told (event.Asked n)) ≡ taken_up n ask s
@@ -341,8 +362,9 @@ asking_so laws o s journal n node ask h f came = go (nat_le MOST_FUNCTIONS (leng
     state = after_taken_up n node ask s came
 
     asked : Now (Due n ask start (numbers_of start)) o first.state (journal ++ e ∷ [])
-    asked = wrote (Due n ask start (numbers_of start)) o s _ journal e h.at state
+    asked = wrote (Due n ask start (numbers_of start)) o s _ journal e h.schedule state
         (asked_so NoneDue o s journal n node ask (λ g m k. k) h.inv f.untouched f.unasked f.within came)
+        h.schedule.worked (untimed o journal e refl)
 
     begins : Cutting start first.state (journal ++ e ∷ []) n node ask
     begins = record {
@@ -364,7 +386,8 @@ asking_so laws o s journal n node ask h f came = go (nat_le MOST_FUNCTIONS (leng
     cut = none_due o start two.state (journal ++ two.journal) n ask (then_so (Due n ask start []) o journal first rest (cut_all o start (numbers_of start) first.state (journal ++ e ∷ []) n node ask asked begins))
 
     go : (t : Bool) → After NoneDue o journal (cond t (says (event.Closed n Rejected) s) (taking_up n ask s))
-    go true = wrote NoneDue o s _ journal (told (event.Closed n Rejected)) h.at
+    go true = wrote NoneDue o s _ journal (told (event.Closed n Rejected)) h.schedule
         (after_rejected n s (none_open n s.functions (fresh_closed NoneDue o s journal n h.inv f)))
         (answers NoneDue o s (journal ++ told (event.Closed n Rejected) ∷ []) kind.Response n refl (rejected_so NoneDue o s journal n node ask h.inv f.untouched f.unasked f.within came))
+        (worked_answered o.blocks kind.Response n s h.schedule.worked) (untimed o journal (told (event.Closed n Rejected)) refl)
     go false = then_so NoneDue o journal two (λ cut. closing (function_of n cut.functions) cut) (closing_so laws o two.state (journal ++ two.journal) n cut)

@@ -3,7 +3,6 @@ use Rattle.std.proofs.Common.{◌≡◌, ℕ, zero, suc, ◌+◌, ◌-◌, ◌*�
 use Rattle.std.specs.Prelude.{nat_lt}
 use Rattle.std.specs.List.{list_any, filter}
 use Rattle.std.proofs.lemmas.Bool.{both_ways, cases_lt, or_left, or_right, and_parts, false≢true}
-use Rattle.ct_word.specs.Nexuses.{no_nexuses}
 use Rattle.ct_tmf.specs.declared.function.Ask.{Ask}
 use Rattle.ct_matrix.specs.Conflicts.{is_head}
 use Rattle.ct_book.specs.declared.work.Work.TheVariants as work
@@ -18,8 +17,7 @@ use Rattle.ct_machine.specs.States.{Stage, Waiting, Here, Granted, There, Over, 
 use Rattle.ct_machine.specs.Events.{message, stop, to_b_if, came_at_b, answered, new_task, staged, cells_after, further, moved_from, leaves, over_at_b, stops_with, executed_at_once, ended_at, noted, cut_at, is_hit, is_awaited, awaited_by, is_told, wants_stop, stops_by, with_function, taken_up, without_function, closed, begun_at_b, entered}
 use Rattle.ct_law.proofs.Tasks.{Has, has_found}
 use Rattle.ct_law.proofs.Messages.{is_arrival, Sent}
-use Rattle.ct_law.proofs.Laws.{Laws}
-use Rattle.ct_law.proofs.Cleared.{stops_none}
+use Rattle.ct_law.proofs.Cleared.{count_cleared, stops_count}
 use Rattle.ct_law.proofs.Sends.{one_if, in_tasks, sent_in, IsFine}
 
 -- a stop can still be sent
@@ -243,18 +241,15 @@ left_moved n s number x count done got h f e some fits =
     (λ (e : x.stage ≡ Here done got). let b = weight_is n s.stopped x (Here done got) e in let c : now x.stage ≡ 2 + (p - (done + count)) = ap now e in omega (arith, a, b, c))
     (λ (e : x.stage ≡ There done got). let b = weight_is n s.stopped x (There done got) e in let c : now x.stage ≡ 2 + (p - (done + count)) + more = ap now e in omega (arith, a, b, c)) e
 
--- a command ends
-stops_count : (laws : Laws) (told : Bool) (by : ℕ) (cleared : List Bool) (tasks : List Task) → cleared ≡ no_nexuses → length (stops_with told by cleared tasks) ≡ 0
-stops_count laws told by cleared tasks e = ap (λ c. length (stops_with told by c tasks)) e ∙ ap length (stops_none laws told by tasks)
-
-left_at_once : (laws : Laws) (n : ℕ) (s : State) (number : ℕ) (x : Task) → task_of number s.tasks ≡ Some x → x.stage ≡ Waiting → left n (executed_at_once x s) + 1 ≤ left n s
-left_at_once laws n s number x f e =
+-- a command ends, and each that it clears can cause a stop
+pub left_at_once : (n : ℕ) (s : State) (number : ℕ) (x : Task) → task_of number s.tasks ≡ Some x → x.stage ≡ Waiting → left n (executed_at_once x s) + 1 ≤ left n s + count_cleared (execute (disk_of s) x.command).cleared (executed_at_once x s).tasks
+left_at_once n s number x f e =
     let execution : Execution = execute (disk_of s) x.command in
     let now : State = record s { control = execution.disk.control; blocks = execution.disk.blocks } in
     let after_it : State = answered kind.Reply x.no (leaves x.no now) in
     let a = left_leaves n now number x f in
     let b = left_answered n (leaves x.no now) kind.Reply x.no in
-    let c = stops_count laws (tells_aborts s.control) x.no execution.cleared after_it.tasks (laws.cleared_none (disk_of s) x.command) in
+    let c = stops_count (tells_aborts s.control) x.no execution.cleared after_it.tasks in
     let d = length-append after_it.to_b (stops_with (tells_aborts s.control) x.no execution.cleared after_it.tasks) in
     let w = weight_is n s.stopped x Waiting e in
     omega (arith, a, b, c, d, w)
@@ -262,27 +257,28 @@ left_at_once laws n s number x f e =
 left_replied : (n : ℕ) (s : State) (number : ℕ) (x : Task) → task_of number s.tasks ≡ Some x → 2 ≤ weight n s.stopped x → left n (answered kind.Reply x.no (leaves x.no s)) + 1 ≤ left n s
 left_replied n s number x f w = let a = left_leaves n s number x f in let b = left_answered n (leaves x.no s) kind.Reply x.no in omega (arith, a, b, w)
 
-abbrev pub can_end : Stage → Bool
-can_end Waiting = true
-can_end (Here done got) = true
-can_end (There done got) = true
-can_end Granted = false
-can_end Over = false
-
-pub left_ended : (laws : Laws) (n : ℕ) (s : State) (number : ℕ) (x : Task) → IsFine n s → task_of number s.tasks ≡ Some x → can_end x.stage ≡ true → left n (ended_at x.stage x s) + 1 ≤ left n s
-left_ended laws n s number x h f can = go x.stage refl
+pub left_ended : (n : ℕ) (s : State) (number : ℕ) (x : Task) → IsFine n s → task_of number s.tasks ≡ Some x → is_moving x.stage ≡ true → left n (ended_at x.stage x s) + 1 ≤ left n s
+left_ended n s number x h f can = go x.stage refl
   where
     go : (stage : Stage) → x.stage ≡ stage → left n (ended_at stage x s) + 1 ≤ left n s
-    go Waiting e = left_at_once laws n s number x f e
     go (Here done got) e = left_replied n s number x f (let w = weight_is n s.stopped x (Here done got) e in omega (arith, w))
     go (There done got) e = left_over n s kind.Finish number x done got refl h f e
-    go Granted e = absurd (both_ways (can_end x.stage) (ap can_end e) can)
-    go Over e = absurd (both_ways (can_end x.stage) (ap can_end e) can)
+    go Waiting e = absurd (both_ways (is_moving x.stage) (ap is_moving e) can)
+    go Granted e = absurd (both_ways (is_moving x.stage) (ap is_moving e) can)
+    go Over e = absurd (both_ways (is_moving x.stage) (ap is_moving e) can)
 
 -- a command is cut
 noted_size : (by number : ℕ) (functions : List Open) → length (noted by number functions) ≡ length functions
 noted_size by number [] = refl
 noted_size by number (function ∷ functions) = ap suc (noted_size by number functions)
+
+-- a command that waits is cut
+pub left_cleared : (n by : ℕ) (s : State) (x : Task) → task_of x.no s.tasks ≡ Some x → x.stage ≡ Waiting → left n (record s { tasks = without_task x.no s.tasks; functions = noted by x.no s.functions }) + 2 ≤ left n s
+left_cleared n by s x f e =
+    let a = total_without (weight n s.stopped) x.no s.tasks x f in
+    let b = noted_size by x.no s.functions in
+    let w = weight_is n s.stopped x Waiting e in
+    omega (arith, a, b, w)
 
 pub left_failed : (n : ℕ) (s : State) (number : ℕ) (x : Task) → IsFine n s → task_of number s.tasks ≡ Some x → is_moving x.stage ≡ true → left n (cut_at Medium x.stage x s) + 1 ≤ left n s
 left_failed n s number x h f can = go x.stage refl

@@ -13,7 +13,7 @@ pub use liveness::{
 pub use safety::{
     blocks_are_serial_at_rest, control_is_serial, every_run_is_lawful, runs_answer_each_work_once,
     runs_are_by_cells, runs_are_legal, runs_are_orderly, runs_are_sound, runs_are_timely,
-    runs_record_prefixes,
+    runs_are_typed, runs_make_their_plans, runs_record_prefixes,
 };
 pub use works::{arrivals_alone_take_room, works_are_kept};
 
@@ -27,7 +27,9 @@ mod tests {
         runs_are_legal();
         runs_are_sound();
         runs_answer_each_work_once();
+        runs_are_typed();
         runs_are_orderly();
+        runs_make_their_plans();
         runs_record_prefixes();
         runs_are_by_cells();
         runs_are_timely();

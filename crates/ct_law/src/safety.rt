@@ -5,7 +5,7 @@ ghost use Rattle.ct_book.specs.declared.event.Logged.{Logged};
 ghost use Rattle.ct_machine.specs.declared.act.Opening.{Opening};
 ghost use Rattle.ct_machine.specs.Serial.{serial_disk};
 ghost use Rattle.ct_machine.specs.Runs.{replay, IsRun};
-ghost use Rattle.ct_machine.specs.Laws.{EachOnce, IsOrderly, RecordsPrefix, IsByCells, IsRestricted, IsLegal, IsSound, IsTimely, IsLawful};
+ghost use Rattle.ct_machine.specs.Laws.{EachOnce, IsTyped, IsOrderly, MakesPlans, RecordsPrefix, IsByCells, IsRestricted, IsLegal, IsSound, IsTimely, IsLawful};
 
 /// Every run is lawful: all of the laws below at once.
 pub fn every_run_is_lawful()
@@ -30,9 +30,21 @@ pub fn runs_answer_each_work_once()
     ensures { (opening : Opening) (journal : List Logged) → IsRun opening journal → EachOnce opening journal }
 {}
 
+/// Each event is one of a work of its kind: commands move, end and are cut, by works that came; functions are taken up and
+/// closed, and one that isn't rejected was taken up.
+pub fn runs_are_typed()
+    ensures { (opening : Opening) (journal : List Logged) → IsRun opening journal → IsTyped journal }
+{}
+
 /// Commands begin in an order that task attributes and conflicts demand (SAM-5, clause 8).
 pub fn runs_are_orderly()
     ensures { (opening : Opening) (journal : List Logged) → IsRun opening journal → IsOrderly opening journal }
+{}
+
+/// A command that found a difference isn't moved on, nor cut; one that began and ends without a difference made its whole
+/// plan.
+pub fn runs_make_their_plans()
+    ensures { (opening : Opening) (journal : List Logged) → IsRun opening journal → MakesPlans opening journal }
 {}
 
 /// A cut records the blocks that its command put, no command moves behind its entry, and a function closes behind the

@@ -29,7 +29,7 @@ use Rattle.ct_lun.specs.Desk.{Desk, slot_of}
 use Rattle.ct_lun.specs.States.{command_in, command_by, at_a, task_in, tasks_in, state_of}
 use Rattle.ct_lun.specs.Agreement.{SlotAgrees, IsFresh, Agrees, AgreesWith}
 use Rattle.ct_lun.specs.Rooms.{task_room, room_of}
-use Rattle.ct_lun.specs.Calls.{Wrote, Does, entered_as, told, replied}
+use Rattle.ct_lun.specs.Calls.{Wrote, medium_cuts, Does, entered_as, told, replied}
 use Rattle.ct_lun.proofs.Lists.{map_push, each_step, same_number, sum_push}
 use Rattle.ct_lun.proofs.Effects.{after_told, after_one, answered_here, came_here}
 use Rattle.ct_lun.proofs.Enters.{cause_known, entered_state}
@@ -187,6 +187,10 @@ entering_one : (cause : Option Reply) (number : ℕ) (s : State) → length (ent
 entering_one None number s = refl
 entering_one (Some reply) number s = refl
 
+entering_uncut : (cause : Option Reply) (number : ℕ) (s : State) → medium_cuts (entering_with cause number s).journal ≡ 0
+entering_uncut None number s = refl
+entering_uncut (Some reply) number s = refl
+
 -- there is room for a command and its operations
 pub room_parts : (p : BookState) (command : Command) (pieces : ℕ) → has_room p (work.Cmd command) pieces ≡ true → (0 < p.commands) × (pieces ≤ p.pieces)
 room_parts p command pieces h = go (nat_lt 0 p.commands) (nat_le pieces p.pieces) refl refl h
@@ -278,6 +282,8 @@ arrive_does d d' p p1 p' command pieces number result said a noted spare w agree
       agrees = agrees;
       spare = rw journal (omega (arith, w.spare, less, one));
       room = rw journal (omega (arith, new_room, grown, fell, one, same));
-      cause = λ f. absurd (false≢true f);
-      later = omega (arith, faults);
+      counted = omega (arith, faults);
+      cuts =
+          let uncut = entering_uncut (turned_cause (state_of d p1) (command_in p1.works number)) number (state_of d p1) in
+          rw journal (omega (arith, uncut));
     }

@@ -1,8 +1,8 @@
 -- A waiting command begins, or is over at once; and steps.
-use Rattle.std.proofs.Common.{◌≡◌, ℕ, ◌<◌, List, [], ◌∷◌, ◌++◌, true, false, Option, Some, None, length, map, slice_set, if◌then◌else◌, refl, sym, ap, ◌∙◌, subst, arith}
+use Rattle.std.proofs.Common.{◌≡◌, ℕ, ◌<◌, ◌≤◌, List, [], ◌∷◌, ◌++◌, Bool, true, false, Option, Some, None, length, map, slice_set, if◌then◌else◌, refl, sym, ap, ◌∙◌, subst, arith, length-append}
 use Rattle.std.specs.List.{list_any}
-use Rattle.std.proofs.lemmas.Bool.{false≢true}
 use Rattle.std.proofs.lemmas.List.{get_or-set_same}
+use Rattle.std.proofs.lemmas.List.Edits.{length-remove}
 use Rattle.ct_word.specs.Nexuses.{no_nexuses}
 use Rattle.ct_sense.specs.declared.reply.Reply.{Reply}
 use Rattle.ct_plan.specs.declared.operation.BlockOp.{BlockOp}
@@ -10,6 +10,7 @@ use Rattle.ct_book.specs.declared.work.Command.{Command}
 use Rattle.ct_book.specs.declared.event.Event.TheVariants as event
 use Rattle.ct_book.specs.declared.event.Logged.{Logged}
 use Rattle.ct_book.specs.Journals.{KeptWork, BookState, numbered}
+use Rattle.ct_book.specs.Kept.{IsCommandNo}
 use Rattle.ct_exec.specs.declared.refusal.Refusal.{Refusal}
 use Rattle.ct_exec.specs.Controls.{ControlState, Disk}
 use Rattle.ct_exec.specs.Executions.{Execution, execute, executed, refusal_of, refused_control, plan_in}
@@ -23,46 +24,66 @@ use Rattle.ct_lun.specs.declared.said.Stepped.TheVariants as stepped
 use Rattle.ct_lun.specs.Desk.{Desk, slot_at, blank, with_control}
 use Rattle.ct_lun.specs.States.{at_a, command_in, task_in, state_of}
 use Rattle.ct_lun.specs.Agreement.{IsFresh, IsLeft, Agrees, AgreesWith}
-use Rattle.ct_lun.specs.Calls.{Leaves, EndsAtOnce, Wrote, Spends, Does, closed_book, told, replied, said}
+use Rattle.ct_lun.specs.Calls.{Leaves, EndsAtOnce, Wrote, Spends, Clears, Does, closed_book, told, replied, said}
 use Rattle.ct_lun.specs.Rooms.{room_of}
 use Rattle.ct_lun.specs.Acts.{going, beginning_by}
 use Rattle.ct_lun.proofs.Lists.{each_drop, each_put}
 use Rattle.ct_lun.proofs.Keeps.{slot_agrees}
-use Rattle.ct_lun.proofs.Turns.{moving_same, ended_answer, ends_ended, clearing_all_none}
-use Rattle.ct_lun.proofs.Effects.{at_once_wrote}
+use Rattle.ct_lun.proofs.Turns.{moving_same, ended_answer, ends_ended}
+use Rattle.ct_lun.proofs.Books.{is_command_no}
+use Rattle.ct_lun.proofs.Effects.{wrote_then, at_once_wrote}
+use Rattle.ct_lun.proofs.Clears.{clears_nobody, uncut_clearing}
 use Rattle.ct_lun.proofs.Spent.{SameRoom, left_spends}
-use Rattle.ct_lun.proofs.Does.{does_from, does_then}
+use Rattle.ct_lun.proofs.Does.{medium_cuts-append, does_from, does_then}
 
 -- over at once
 
 execution_of : Execution → Task → State → Turn
 execution_of execution task s = followed (replies (event.Ended task.no) execution.reply s) (λ ended. clearing_all task.no execution.cleared (numbers_of ended.tasks) ended)
 
-ending_journal : (task : Task) (s : State) (disk : Disk) (reply : Reply) → execute (disk_of s) task.command ≡ record { disk = disk; reply = reply; cleared = no_nexuses } → (ending_at_once task s).journal ≡ replied (event.Ended task.no) reply ∷ []
-unfolding execution_of
-ending_journal task s disk reply e =
-    ap (λ (execution : Execution). (execution_of execution task s).journal) e
-    ∙ ap (λ (turn : Turn). (replied (event.Ended task.no) reply ∷ []) ++ turn.journal) (clearing_all_none task.no (numbers_of (replies (event.Ended task.no) reply s).state.tasks) (replies (event.Ended task.no) reply s).state)
+ended_with : ℕ → Reply → State → State
+ended_with number reply s = (replies (event.Ended number) reply s).state
 
-once_does : (d d' : Desk) (p p' : BookState) (at count : ℕ) (control : ControlState) (reply : Reply) → AgreesWith d p → at < length d.slots → (slot_at d.slots at).begun ≡ false → 0 < p.spare
-    → execute (record { control = d.control; blocks = d.blocks }) (command_in p.works (slot_at d.slots at).no) ≡ record { disk = record { control = control; blocks = d.blocks }; reply = reply; cleared = no_nexuses }
-    → Leaves (with_control d control) d' at → p' ≡ closed_book p (slot_at d.slots at).no reply (event.Ended (slot_at d.slots at).no)
+ending_journal : (task : Task) (s : State) (disk : Disk) (reply : Reply) (cleared : List Bool) → execute (disk_of s) task.command ≡ record { disk = disk; reply = reply; cleared = cleared }
+    → (ending_at_once task s).journal ≡ (replied (event.Ended task.no) reply ∷ []) ++ (clearing_all task.no cleared (numbers_of (ended_with task.no reply s).tasks) (ended_with task.no reply s)).journal
+unfolding execution_of ended_with
+ending_journal task s disk reply cleared e = ap (λ (execution : Execution). (execution_of execution task s).journal) e
+
+-- behind its event the unit agrees with its book
+once_agrees : (d d1 : Desk) (p p1 : BookState) (at : ℕ) (control : ControlState) (reply : Reply) (cleared : List Bool) → AgreesWith d p → at < length d.slots → (slot_at d.slots at).begun ≡ false → 0 < p.spare
+    → execute (record { control = d.control; blocks = d.blocks }) (command_in p.works (slot_at d.slots at).no) ≡ record { disk = record { control = control; blocks = d.blocks }; reply = reply; cleared = cleared }
+    → Leaves (with_control d control) d1 at → p1 ≡ closed_book p (slot_at d.slots at).no reply (event.Ended (slot_at d.slots at).no) → AgreesWith d1 p1
+once_agrees d d1 p p1 at control reply cleared a h waits room e l closed = record {
+  base = (at_once_wrote d d1 p p1 at control reply cleared a.base h waits room e l closed).agrees;
+  left = rw l.slots (each_drop IsLeft d.slots at a.left);
+}
+
+once_does : (d d1 d' : Desk) (p p1 p' : BookState) (at count : ℕ) (control : ControlState) (reply : Reply) (cleared : List Bool) → AgreesWith d p → at < length d.slots → (slot_at d.slots at).begun ≡ false → 0 < p.spare
+    → execute (record { control = d.control; blocks = d.blocks }) (command_in p.works (slot_at d.slots at).no) ≡ record { disk = record { control = control; blocks = d.blocks }; reply = reply; cleared = cleared }
+    → Leaves (with_control d control) d1 at → p1 ≡ closed_book p (slot_at d.slots at).no reply (event.Ended (slot_at d.slots at).no)
+    → Clears d1 d' p1 p' (slot_at d.slots at).no cleared (numbers_of (state_of d1 p1).tasks)
     → (beginning_by d p at count None).turn ≡ ending_at_once (task_in p.works (slot_at d.slots at)) (state_of d p)
     → Does d d' p p' (beginning_by d p at count) (answer.Ended (slot_at d.slots at).no (line_by (arrival_of (slot_at d.slots at).no (state_of d p))))
-unfolding room_of
-once_does d d' p p' at count control reply a h waits room e l closed turn =
+unfolding ended_with room_of
+once_does d d1 d' p p1 p' at count control reply cleared a h waits room e l closed clears turn =
     let slot = slot_at d.slots at in
-    let s = state_of d p in
-    let es : List Logged = replied (event.Ended slot.no) reply ∷ [] in
-    let journal : (beginning_by d p at count None).turn.journal ≡ es = ap (λ (t : Turn). t.journal) turn ∙ ending_journal (task_in p.works slot) s (record { control = control; blocks = d.blocks }) reply e in
-    let same : SameRoom p p' = rw closed (record { works = refl; commands = refl; functions = refl; pieces = refl }) in
-    does_from d d' p p' (beginning_by d p at count) None es (answer.Ended slot.no (line_by (arrival_of slot.no s)))
-    (at_once_wrote d d' p p' at control reply a.base h waits room e l closed)
-    (left_spends (with_control d control) d' p p' at h l same)
-    (rw l.slots (each_drop IsLeft d.slots at a.left))
+    let s : State = state_of d p in
+    let ended : List Logged = replied (event.Ended slot.no) reply ∷ [] in
+    let cuts : State → List Logged = λ (now : State). (clearing_all slot.no cleared (numbers_of now.tasks) now).journal in
+    let first : Wrote d d1 p p1 ended = at_once_wrote d d1 p p1 at control reply cleared a.base h waits room e l closed in
+    let journal : (beginning_by d p at count None).turn.journal ≡ ended ++ cuts (state_of d1 p1) =
+    ap (λ (t : Turn). t.journal) turn ∙ ending_journal (task_in p.works slot) s (record { control = control; blocks = d.blocks }) reply cleared e
+    ∙ ap (λ (now : State). ended ++ cuts now) (sym first.state) in
+    let same : SameRoom p p1 = rw closed (record { works = refl; commands = refl; functions = refl; pieces = refl }) in
+    let spends : Spends d d1 p p1 1 = left_spends (with_control d control) d1 p p1 at h l same in
+    does_from d d' p p' (beginning_by d p at count) None (ended ++ cuts (state_of d1 p1)) (answer.Ended slot.no (line_by (arrival_of slot.no s)))
+    (wrote_then d d1 d' p p1 p' ended (cuts (state_of d1 p1)) first clears.wrote)
+    (omega (arith, spends, clears.spends, length-append ended (cuts (state_of d1 p1))))
+    clears.left
     journal
-    (ap (moved_answer slot.no s) journal ∙ ended_answer slot.no s es (ends_ended slot.no reply))
-    (λ f. absurd (false≢true f)) (omega (arith, l.faults))
+    (ap (moved_answer slot.no s) journal ∙ ended_answer slot.no s (ended ++ cuts (state_of d1 p1)) (ends_ended slot.no reply (cuts (state_of d1 p1))))
+    (omega (arith, l.faults, clears.faults))
+    (omega (arith, medium_cuts-append ended (cuts (state_of d1 p1)), uncut_clearing slot.no cleared (numbers_of (state_of d1 p1).tasks) (state_of d1 p1)))
 
 -- refused
 
@@ -80,17 +101,30 @@ pub refused_does : (d d' : Desk) (p p' : BookState) (at count : ℕ) (refusal : 
 unfolding beginning_turn
 refused_does d d' p p' at count refusal a h waits room e l closed =
     let command = command_in p.works (slot_at d.slots at).no in
-    once_does d d' p p' at count (refused_control d.control command) (refused_reply refusal) a h waits room
-    (executed_refused (record { control = d.control; blocks = d.blocks }) command (refused_reply refusal) e) l closed
+    let control : ControlState = refused_control d.control command in
+    let executed_so = executed_refused (record { control = d.control; blocks = d.blocks }) command (refused_reply refusal) e in
+    once_does d d' d' p p' p' at count control (refused_reply refusal) no_nexuses a h waits room executed_so l closed
+    (clears_nobody d' p' (slot_at d.slots at).no (numbers_of (state_of d' p').tasks) (once_agrees d d' p p' at control (refused_reply refusal) no_nexuses a h waits room executed_so l closed))
     (ap (λ (r : Option Reply). beginning_turn d p at count r (plan_in (length d.blocks) command)) e)
 
-pub at_once_does : (d d' : Desk) (p p' : BookState) (at count : ℕ) → AgreesWith d p → at < length d.slots → (slot_at d.slots at).begun ≡ false → 0 < p.spare
-    → refusal_of d.control (length d.blocks) (command_in p.works (slot_at d.slots at).no) ≡ None → plan_in (length d.blocks) (command_in p.works (slot_at d.slots at).no) ≡ [] → EndsAtOnce d d' p p' at
+pub at_once_agrees : (d d1 : Desk) (p p1 : BookState) (at : ℕ) (cleared : List Bool) → AgreesWith d p → at < length d.slots → (slot_at d.slots at).begun ≡ false → 0 < p.spare → EndsAtOnce d d1 p p1 at cleared → AgreesWith d1 p1
+at_once_agrees d d1 p p1 at cleared a h waits room once = once_agrees d d1 p p1 at d1.control once.reply cleared a h waits room once.execution once.leaves once.kept
+
+-- it takes one place, one event and no number
+pub at_once_room : (d d1 : Desk) (p p1 : BookState) (at : ℕ) (cleared : List Bool) → at < length d.slots → length d.slots ≤ p.spare → EndsAtOnce d d1 p p1 at cleared → length d1.slots ≤ p1.spare
+at_once_room d d1 p p1 at cleared h room once = rw (once.kept, once.leaves.slots) (omega (arith, length-remove d.slots at h, room, h))
+
+pub at_once_named : (d d1 : Desk) (p p1 : BookState) (at : ℕ) (cleared : List Bool) → Agrees d p → at < length d.slots → EndsAtOnce d d1 p p1 at cleared → IsCommandNo p1 (slot_at d.slots at).no
+at_once_named d d1 p p1 at cleared a h once = rw once.kept (is_command_no d p at a h)
+
+pub at_once_does : (d d1 d' : Desk) (p p1 p' : BookState) (at count : ℕ) (cleared : List Bool) → AgreesWith d p → at < length d.slots → (slot_at d.slots at).begun ≡ false → 0 < p.spare
+    → refusal_of d.control (length d.blocks) (command_in p.works (slot_at d.slots at).no) ≡ None → plan_in (length d.blocks) (command_in p.works (slot_at d.slots at).no) ≡ [] → EndsAtOnce d d1 p p1 at cleared
+    → Clears d1 d' p1 p' (slot_at d.slots at).no cleared (numbers_of (state_of d1 p1).tasks)
     → Does d d' p p' (beginning_by d p at count) (answer.Ended (slot_at d.slots at).no (line_by (arrival_of (slot_at d.slots at).no (state_of d p))))
 unfolding beginning_turn
-at_once_does d d' p p' at count a h waits room unrefused unplanned once =
+at_once_does d d1 d' p p1 p' at count cleared a h waits room unrefused unplanned once clears =
     let command = command_in p.works (slot_at d.slots at).no in
-    once_does d d' p p' at count d'.control once.reply a h waits room once.execution once.leaves once.kept
+    once_does d d1 d' p p1 p' at count d1.control once.reply cleared a h waits room once.execution once.leaves once.kept clears
     (ap (λ (r : Option Reply). beginning_turn d p at count r (plan_in (length d.blocks) command)) unrefused ∙ ap (beginning_turn d p at count None) unplanned)
 
 -- the answer names the work's line
@@ -146,7 +180,7 @@ begin_does d d1 d' p p1 p' at count step a h waits unrefused some slots faults w
     let moves = λ (fault : Option ℕ). begun_turn d d1 p p1 at count fault a.base h waits slots w same_works in
     let number : (slot_at d1.slots at).no ≡ slot.no = ap (λ (xs : List Slot). (slot_at xs at).no) slots ∙ ap (λ (y : Slot). y.no) (get_or-set_same d.slots at (record slot { begun = true }) blank h) in
     let arrivals : (state_of d1 p1).arrivals ≡ s.arrivals = ap (λ (works : List KeptWork). map at_a works) same_works in
-    does_then d d1 d' p p1 p' (told (event.Begun slot.no) ∷ []) (going d1 p1 at count) (beginning_by d p at count) (said slot.no (state_of d1 p1) step) (said slot.no s step) w spends x faults
+    does_then d d1 d' p p1 p' (told (event.Begun slot.no) ∷ []) (going d1 p1 at count) (beginning_by d p at count) (said slot.no (state_of d1 p1) step) (said slot.no s step) w spends x faults refl
     (λ fault. ap (λ (t : Turn). t.journal) (turn fault) ∙ ap (λ (t : Turn). (told (event.Begun slot.no) ∷ []) ++ t.journal) (sym (moves fault)))
     (λ fault told_before.
     ap (λ (t : Turn). moved_answer slot.no s t.journal) (turn fault)

@@ -1,10 +1,6 @@
 -- What may be written into the book of a unit.
-use Rattle.std.proofs.Common.{◌≡◌, ℕ, List, Bool, true, false, Option, Some, None, IsSome, IsSomeAnd, ◌<◌, length, refl}
-use Rattle.std.proofs.Common.{sym, ap, ◌∙◌, subst}
-use Rattle.ct_word.specs.Nexuses.{no_nexuses}
-use Rattle.ct_exec.specs.Controls.{Disk}
-use Rattle.ct_exec.specs.Executions.{Execution, execute, executed, refusal_of}
-use Rattle.ct_book.specs.declared.work.Command.{Command}
+use Rattle.std.proofs.Common.{◌≡◌, ℕ, true, false, Option, Some, None, IsSome, IsSomeAnd, ◌<◌, length, refl}
+use Rattle.std.proofs.Common.{sym, ◌∙◌, subst}
 use Rattle.ct_sense.specs.declared.reply.Reply.{Reply}
 use Rattle.ct_matrix.specs.declared.held.HeldCommand.{HeldCommand}
 use Rattle.ct_matrix.specs.Queues.{command_of}
@@ -32,17 +28,3 @@ is_held d p at a h = rw (held_found d p at a h) refl
 pub waits_held : (d : Desk) (p : BookState) (at : ℕ) → Agrees d p → at < length d.slots → (slot_at d.slots at).begun ≡ false → IsSomeAnd (command_of (slot_at d.slots at).no d.set.commands) (λ command. command.held.begun ≡ false)
 waits_held d p at a h waits =
     subst (λ (o : Option HeldCommand). IsSomeAnd o (λ command. command.held.begun ≡ false)) (sym (held_found d p at a h)) (begun_stage (slot_at d.slots at) ∙ waits)
-
--- no command clears a nexus yet
-pub clears_none : (disk : Disk) (command : Command) → (execute disk command).cleared ≡ no_nexuses
-unfolding execute
-clears_none disk command = go (refusal_of disk.control (length disk.blocks) command)
-  where
-    go : (refusal : Option Reply) → (executed refusal disk command).cleared ≡ no_nexuses
-    go (Some reply) = refl
-    go None = refl
-
--- an execution that clears what no command does
-pub clears_known : (disk disk' : Disk) (command : Command) (reply : Reply) (cleared : List Bool) → execute disk command ≡ record { disk = disk'; reply = reply; cleared = cleared } → execute disk command ≡ record { disk = disk'; reply = reply; cleared = no_nexuses }
-clears_known disk disk' command reply cleared e =
-    e ∙ ap (λ (set : List Bool). record { disk = disk'; reply = reply; cleared = set }) (sym (ap (λ (x : Execution). x.cleared) e) ∙ clears_none disk command)

@@ -1,7 +1,6 @@
 -- What the calls of a unit do, composed of their events.
-use Rattle.std.proofs.Common.{◌≡◌, ℕ, zero, suc, ◌+◌, ◌<◌, ◌≤◌, List, [], ◌++◌, Bool, true, false, nat_le, ◌==◌, Option, Some, None, IsSome, length, take, drop, if◌then◌else◌, refl, sym, ap, ◌∙◌, subst, arith, length-append}
+use Rattle.std.proofs.Common.{◌≡◌, ℕ, zero, suc, ◌+◌, ◌<◌, ◌≤◌, List, [], ◌∷◌, ◌++◌, Bool, true, false, nat_le, ◌==◌, Option, Some, None, length, take, drop, if◌then◌else◌, refl, sym, ap, ◌∙◌, subst, arith, length-append}
 use Rattle.std.specs.List.{list_any}
-use Rattle.std.proofs.lemmas.Bool.{false≢true}
 use Rattle.std.proofs.lemmas.Bool.Decides.{nat_tests}
 use Rattle.std.proofs.lemmas.List.{append-nil, get_or-set_same, length-set, length-drop}
 use Rattle.ct_plan.specs.declared.operation.BlockOp.{BlockOp}
@@ -10,7 +9,7 @@ use Rattle.ct_plan.specs.declared.task.Piece.{Piece}
 use Rattle.ct_plan.specs.declared.task.PieceEnd.{PieceEnd}
 use Rattle.ct_plan.specs.declared.task.PieceEnd.TheVariants.{All}
 use Rattle.ct_plan.specs.Cells.{Progress, performed}
-use Rattle.ct_plan.specs.Pieces.{Advances, fault_in, fault_behind, tried, unfailed_end, end_of}
+use Rattle.ct_plan.specs.Pieces.{Advances, fault_in, fault_behind, faults_at, tried, unfailed_end, end_of}
 use Rattle.ct_plan.specs.Tasks.{cells_of}
 use Rattle.ct_book.specs.declared.event.Event.TheVariants as event
 use Rattle.ct_book.specs.declared.event.Why.TheVariants.{Medium}
@@ -27,7 +26,7 @@ use Rattle.ct_lun.specs.Desk.{Desk, slot_at, blank}
 use Rattle.ct_lun.specs.States.{command_in, task_in, state_of}
 use Rattle.ct_lun.specs.Agreement.{SlotAgrees, IsLeft, Agrees, AgreesWith}
 use Rattle.ct_lun.specs.Acts.{going}
-use Rattle.ct_lun.specs.Calls.{Goes, Wrote, Spends, Does, IsOver, by_end, by_medium, moved_book, moved_journal}
+use Rattle.ct_lun.specs.Calls.{Goes, Wrote, Spends, medium_cuts, Does, IsOver, by_end, by_medium, moved_book, moved_journal}
 use Rattle.ct_lun.proofs.Lists.{slot_read, each_at, each_put}
 use Rattle.ct_lun.proofs.Keeps.{slot_agrees}
 use Rattle.ct_lun.proofs.Turns.{difference_of, difference_kept, moving_at, part_journal, part_answer}
@@ -35,10 +34,20 @@ use Rattle.ct_lun.proofs.Effects.{wrote_then}
 use Rattle.ct_lun.proofs.Moves.{slot_cells, slot_progress, slot_made, moved_wrote, moved_fewer}
 use Rattle.ct_lun.proofs.Spent.{moved_spends}
 
+-- cuts of journals, one behind another
+
+pub medium_cuts-append : (es fs : List Logged) → medium_cuts (es ++ fs) ≡ medium_cuts es + medium_cuts fs
+medium_cuts-append [] fs = omega arith
+medium_cuts-append (e ∷ es) fs = let rest = medium_cuts-append es fs in omega (arith, rest)
+
+pub moved_uncut : (number count : ℕ) → medium_cuts (moved_journal number count) ≡ 0
+moved_uncut number zero = refl
+moved_uncut number (suc count) = refl
+
 -- what a call wrote, as what the machine does
 pub does_from : (d d' : Desk) (p p' : BookState) (outcome : Option ℕ → Done) (fault : Option ℕ) (es : List Logged) (said : Answer) → Wrote d d' p p' es → Spends d d' p p' (length es) → Each IsLeft d'.slots
-    → (outcome fault).turn.journal ≡ es → (outcome fault).answer ≡ said → (IsSome fault → d.faults < d'.faults) → d.faults ≤ d'.faults → Does d d' p p' outcome said
-does_from d d' p p' outcome fault es said w spends left journal answered cause later = record {
+    → (outcome fault).turn.journal ≡ es → (outcome fault).answer ≡ said → d'.faults ≡ d.faults + faults_at fault → medium_cuts es ≡ faults_at fault → Does d d' p p' outcome said
+does_from d d' p p' outcome fault es said w spends left journal answered counted cuts = record {
   fault = fault;
   journal = w.journal ∙ ap (λ (j : List Logged). p.journal ++ j) (sym journal);
   answer = sym answered;
@@ -46,14 +55,14 @@ does_from d d' p p' outcome fault es said w spends left journal answered cause l
   agrees = record { base = w.agrees; left = left };
   spare = rw journal w.spare;
   room = rw journal spends;
-  cause = cause;
-  later = later;
+  counted = counted;
+  cuts = ap medium_cuts journal ∙ cuts;
 }
 
 -- nothing was done
 pub does_nothing : (d : Desk) (p : BookState) (outcome : Option ℕ → Done) (said : Answer) → AgreesWith d p → (outcome None).turn.journal ≡ [] → (outcome None).answer ≡ said → Does d d p p outcome said
 does_nothing d p outcome said a journal answered =
-    does_from d d p p outcome None [] said (record { journal = sym (append-nil p.journal); state = refl; agrees = a.base; spare = omega arith }) (omega arith) a.left journal answered (λ x. absurd (false≢true x)) (omega arith)
+    does_from d d p p outcome None [] said (record { journal = sym (append-nil p.journal); state = refl; agrees = a.base; spare = omega arith }) (omega arith) a.left journal answered (omega arith) refl
 
 -- the same, where the machine does the same
 pub does_same : (d d' : Desk) (p p' : BookState) (outcome outcome' : Option ℕ → Done) (said : Answer) → ((fault : Option ℕ) → outcome fault ≡ outcome' fault) → Does d d' p p' outcome said → Does d d' p p' outcome' said
@@ -65,18 +74,19 @@ does_same d d' p p' outcome outcome' said same x = record {
   agrees = x.agrees;
   spare = rw (← same x.fault) x.spare;
   room = rw (← same x.fault) x.room;
-  cause = x.cause;
-  later = x.later;
+  counted = x.counted;
+  cuts = sym (ap (λ (o : Done). medium_cuts o.turn.journal) (same x.fault)) ∙ x.cuts;
 }
 
 -- some events, and then what the machine does
-pub does_then : (d d1 d' : Desk) (p p1 p' : BookState) (es : List Logged) (outcome outcome' : Option ℕ → Done) (said said' : Answer) → Wrote d d1 p p1 es → Spends d d1 p p1 (length es) → Does d1 d' p1 p' outcome said → d1.faults ≡ d.faults
+pub does_then : (d d1 d' : Desk) (p p1 p' : BookState) (es : List Logged) (outcome outcome' : Option ℕ → Done) (said said' : Answer) → Wrote d d1 p p1 es → Spends d d1 p p1 (length es) → Does d1 d' p1 p' outcome said → d1.faults ≡ d.faults → medium_cuts es ≡ 0
     → ((fault : Option ℕ) → (outcome' fault).turn.journal ≡ es ++ (outcome fault).turn.journal) → ((fault : Option ℕ) → (outcome fault).answer ≡ said → (outcome' fault).answer ≡ said') → Does d d' p p' outcome' said'
-does_then d d1 d' p p1 p' es outcome outcome' said said' w spends x same journal answered =
+does_then d d1 d' p p1 p' es outcome outcome' said said' w spends x same uncut journal answered =
     let second : Wrote d1 d' p1 p' (outcome x.fault).turn.journal = record { journal = x.journal; state = x.state; agrees = x.agrees.base; spare = x.spare } in
     does_from d d' p p' outcome' x.fault (es ++ (outcome x.fault).turn.journal) said' (wrote_then d d1 d' p p1 p' es (outcome x.fault).turn.journal w second)
     (omega (arith, spends, x.room, length-append es (outcome x.fault).turn.journal))
-    x.agrees.left (journal x.fault) (answered x.fault (sym x.answer)) (λ f. omega (arith, x.cause f, same)) (omega (arith, x.later, same))
+    x.agrees.left (journal x.fault) (answered x.fault (sym x.answer)) (omega (arith, x.counted, same))
+    (omega (arith, medium_cuts-append es (outcome x.fault).turn.journal, uncut, x.cuts))
 
 -- how a piece ended
 
@@ -181,7 +191,7 @@ part_does d d' p p' at count piece a h begun room g book ended =
     (rw g.slots (each_put IsLeft d.slots at (record slot { task = g.task }) a.left (λ b. left)))
     journal
     (ap (moved_answer slot.no (state_of d p)) journal ∙ part_answer slot.no (state_of d p) (moved_journal slot.no piece.moved) quiet)
-    (λ f. absurd (false≢true f)) g.later
+    (omega (arith, g.counted, ap faults_at none)) (moved_uncut slot.no piece.moved)
 
 -- the command at the place is over by an event that names it
 pub gone_end : (d d' : Desk) (at count : ℕ) (out : List ℕ) (piece : Piece) (number : ℕ) → at < length d.slots → Goes d d' at count out piece → number ≡ (slot_at d.slots at).no → IsOver (slot_at d'.slots at).no (event.Ended number)

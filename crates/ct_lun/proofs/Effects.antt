@@ -1,7 +1,7 @@
 -- The state behind each event that a unit writes, and the room that is left.
-use Rattle.std.proofs.Common.{◌≡◌, ℕ, zero, suc, ◌-◌, ◌<◌, List, [], ◌∷◌, ◌++◌, Bool, true, false, Option, Some, None, option_and_then, length, map, slice_get, slice_set, refl, sym, ap, ◌∙◌, arith, append_assoc, length-append}
+use Rattle.std.proofs.Common.{◌≡◌, ℕ, zero, suc, ◌-◌, ◌<◌, List, [], ◌∷◌, ◌++◌, Bool, true, false, ◌&&◌, ◌==◌, if◌then◌else◌, Option, Some, None, option_and_then, length, map, slice_get, slice_set, refl, sym, ap, ◌∙◌, arith, append_assoc, length-append}
+use Rattle.std.proofs.lemmas.Bool.{false≢true}
 use Rattle.std.proofs.lemmas.List.{append-nil}
-use Rattle.ct_word.specs.Nexuses.{no_nexuses}
 use Rattle.ct_sense.specs.declared.reply.Reply.{Reply}
 use Rattle.ct_matrix.specs.Queues.{TaskSet, with_begun}
 use Rattle.ct_book.specs.declared.event.Event.{Event}
@@ -12,9 +12,10 @@ use Rattle.ct_book.specs.declared.event.Logged.{Logged}
 use Rattle.ct_book.specs.Journals.{KeptWork, BookState, numbered, with_event, with_reply, reply_in, told_in}
 use Rattle.ct_exec.specs.Controls.{ControlState, tells_aborts, is_unrestricted}
 use Rattle.ct_exec.specs.Executions.{Execution, execute}
-use Rattle.ct_machine.specs.States.{Stage, Waiting, Here, Task, Message, State, disk_of, arrival_of, task_of, without_task, with_task, at_stage}
-use Rattle.ct_machine.specs.Events.{after, after_events, after_event, ended_at, cut_at, answered, came_at_b, leaves, stops_with}
+use Rattle.ct_machine.specs.States.{Stage, Waiting, Here, Task, Message, State, disk_of, arrival_of, task_of, without_task, with_task, at_stage, is_b}
+use Rattle.ct_machine.specs.Events.{after, after_events, after_event, ended_at, cut_at, answered, came_at_b, leaves, stop, is_cleared, stops_with}
 use Rattle.ct_lun.specs.declared.slot.Slot.{Slot}
+use Rattle.ct_lun.specs.Apart.{Each}
 use Rattle.ct_lun.specs.Desk.{Desk, slot_at, with_control}
 use Rattle.ct_lun.specs.States.{command_in, stage_of, task_in, tasks_in, at_a, state_of}
 use Rattle.ct_lun.specs.Agreement.{SlotAgrees, IsFresh, Agrees}
@@ -22,7 +23,6 @@ use Rattle.ct_lun.specs.Calls.{Leaves, Wrote, IsOver, by_end, by_medium, closed_
 use Rattle.ct_lun.proofs.Lists.{slot_read, get_set}
 use Rattle.ct_lun.proofs.Tasks.{without_at, with_at}
 use Rattle.ct_lun.proofs.Keeps.{slot_agrees, task_found, agrees_left, agrees_begun, agrees_control}
-use Rattle.ct_lun.proofs.Turns.{nothing_cleared}
 
 -- two calls, one after the other
 after_append : (s : State) (es fs : List Logged) → after_events s (es ++ fs) ≡ after_events (after_events s es) fs
@@ -59,7 +59,7 @@ stage_waits slot waits = rw waits refl
 
 -- the state without a command
 
-left_state : (d d' : Desk) (p p' : BookState) (at : ℕ) → Agrees d p → at < length d.slots → Leaves d d' at → p'.works ≡ p.works → p'.commands ≡ p.commands → p'.functions ≡ p.functions → p'.pieces ≡ p.pieces
+pub left_state : (d d' : Desk) (p p' : BookState) (at : ℕ) → Agrees d p → at < length d.slots → Leaves d d' at → p'.works ≡ p.works → p'.commands ≡ p.commands → p'.functions ≡ p.functions → p'.pieces ≡ p.pieces
     → state_of d' p' ≡ record (state_of d p) { tasks = without_task (slot_at d.slots at).no (state_of d p).tasks }
 left_state d d' p p' at a h l works commands functions pieces =
     let tasks = without_at p.works d.slots at (slot_at d.slots at) a.numbers (slot_read d.slots at h) in
@@ -113,31 +113,53 @@ over_wrote d d' p p' at reply e a h begun over room l book =
       spare = omega arith;
     })
 
--- a waiting command is executed at once
+-- every command came at A, so none is stopped at B
 
-stops_none : (told : Bool) (by : ℕ) (tasks : List Task) → stops_with told by no_nexuses tasks ≡ []
-stops_none told by [] = refl
-stops_none told by (task ∷ tasks) = rw (nothing_cleared task) (stops_none told by tasks)
+abbrev IsAtA : Task → Type 0
+IsAtA task = is_b task.node ≡ false
+
+tasks_at_a : (works : List KeptWork) (slots : List Slot) → Each IsAtA (tasks_in works slots)
+tasks_at_a works [] = tt
+tasks_at_a works (x ∷ xs) = (refl, tasks_at_a works xs)
+
+without_at_a : (number : ℕ) (tasks : List Task) → Each IsAtA tasks → Each IsAtA (without_task number tasks)
+without_at_a number [] each = tt
+without_at_a number (task ∷ tasks) each = go (task.no == number) (without_at_a number tasks each.1)
+  where
+    go : (here : Bool) → Each IsAtA (without_task number tasks) → Each IsAtA (if here then without_task number tasks else task ∷ without_task number tasks)
+    go true rest = rest
+    go false rest = (each.0, rest)
+
+stops_none : (told : Bool) (by : ℕ) (cleared : List Bool) (tasks : List Task) → Each IsAtA tasks → stops_with told by cleared tasks ≡ []
+stops_none told by cleared [] each = refl
+stops_none told by cleared (task ∷ tasks) each = go (is_cleared cleared task) (is_b task.node) each.0 (stops_none told by cleared tasks each.1)
+  where
+    go : (is_due at_b : Bool) → at_b ≡ false → stops_with told by cleared tasks ≡ [] → (if is_due && at_b then stop task.no by told ∷ stops_with told by cleared tasks else stops_with told by cleared tasks) ≡ []
+    go true true e rest = absurd (false≢true (sym e))
+    go true false e rest = rest
+    go false at_b e rest = rest
+
+-- a waiting command is executed at once
 
 executed_by : Execution → Task → State → State
 executed_by execution task s =
     let left = answered kind.Reply task.no (leaves task.no (record s { control = execution.disk.control; blocks = execution.disk.blocks })) in
     record left { to_b = left.to_b ++ stops_with (tells_aborts s.control) task.no execution.cleared left.tasks }
 
-executed_state : (task : Task) (s : State) (control : ControlState) (reply : Reply) → s.to_b ≡ [] → came_at_b (arrival_of task.no s) ≡ false → execute (disk_of s) task.command ≡ record { disk = record { control = control; blocks = s.blocks }; reply = reply; cleared = no_nexuses }
+executed_state : (task : Task) (s : State) (control : ControlState) (reply : Reply) (cleared : List Bool) → s.to_b ≡ [] → came_at_b (arrival_of task.no s) ≡ false → Each IsAtA s.tasks → execute (disk_of s) task.command ≡ record { disk = record { control = control; blocks = s.blocks }; reply = reply; cleared = cleared }
     → ended_at Waiting task s ≡ leaves task.no (record s { control = control })
 unfolding executed_by
-executed_state task s control reply none here e =
+executed_state task s control reply cleared none here at_a e =
     ap (λ (execution : Execution). executed_by execution task s) e
-    ∙ ap (λ (left : State). record left { to_b = left.to_b ++ stops_with (tells_aborts s.control) task.no no_nexuses left.tasks }) (answered_here task.no (leaves task.no (record s { control = control })) here)
-    ∙ ap (λ (stops : List Message). record (leaves task.no (record s { control = control })) { to_b = s.to_b ++ stops }) (stops_none (tells_aborts s.control) task.no (without_task task.no s.tasks))
+    ∙ ap (λ (left : State). record left { to_b = left.to_b ++ stops_with (tells_aborts s.control) task.no cleared left.tasks }) (answered_here task.no (leaves task.no (record s { control = control })) here)
+    ∙ ap (λ (stops : List Message). record (leaves task.no (record s { control = control })) { to_b = s.to_b ++ stops }) (stops_none (tells_aborts s.control) task.no cleared (without_task task.no s.tasks) (without_at_a task.no s.tasks at_a))
     ∙ ap (λ (messages : List Message). record (leaves task.no (record s { control = control })) { to_b = messages }) (append-nil s.to_b)
 
-pub at_once_wrote : (d d' : Desk) (p p' : BookState) (at : ℕ) (control : ControlState) (reply : Reply) → Agrees d p → at < length d.slots → (slot_at d.slots at).begun ≡ false → 0 < p.spare
-    → execute (record { control = d.control; blocks = d.blocks }) (command_in p.works (slot_at d.slots at).no) ≡ record { disk = record { control = control; blocks = d.blocks }; reply = reply; cleared = no_nexuses }
+pub at_once_wrote : (d d' : Desk) (p p' : BookState) (at : ℕ) (control : ControlState) (reply : Reply) (cleared : List Bool) → Agrees d p → at < length d.slots → (slot_at d.slots at).begun ≡ false → 0 < p.spare
+    → execute (record { control = d.control; blocks = d.blocks }) (command_in p.works (slot_at d.slots at).no) ≡ record { disk = record { control = control; blocks = d.blocks }; reply = reply; cleared = cleared }
     → Leaves (with_control d control) d' at → p' ≡ closed_book p (slot_at d.slots at).no reply (event.Ended (slot_at d.slots at).no)
     → Wrote d d' p p' (replied (event.Ended (slot_at d.slots at).no) reply ∷ [])
-at_once_wrote d d' p p' at control reply a h waits room e l book =
+at_once_wrote d d' p p' at control reply cleared a h waits room e l book =
     let slot = slot_at d.slots at in
     let task = task_in p.works slot in
     let ended = closed_book p slot.no reply (event.Ended slot.no) in
@@ -145,7 +167,7 @@ at_once_wrote d d' p p' at control reply a h waits room e l book =
     let found : task_of slot.no (state_of d p).tasks ≡ Some task = task_found d p at a h in
     let changed : Agrees (with_control d control) p = agrees_control d p control a in
     let effect : after_event (event.Ended slot.no) None (state_of d p) ≡ leaves slot.no (record (state_of d p) { control = control }) =
-    rw found (ap (λ (stage : Stage). ended_at stage task (state_of d p)) (stage_waits slot waits) ∙ executed_state task (state_of d p) control reply refl (came_here p.works slot.no) e) in
+    rw found (ap (λ (stage : Stage). ended_at stage task (state_of d p)) (stage_waits slot waits) ∙ executed_state task (state_of d p) control reply cleared refl (came_here p.works slot.no) (tasks_at_a p.works d.slots) e) in
     rw book
     (record {
       journal = ap (λ (x : Logged). p.journal ++ x ∷ []) (over_told p slot.no reply (event.Ended slot.no) sa.reply by_end);

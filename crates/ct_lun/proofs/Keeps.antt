@@ -82,9 +82,10 @@ get_map f (y ∷ ys) (suc at) x read = get_map f ys at x read
 lease_need : (blocks : ℕ) (pool : PoolState) (works : List KeptWork) (replies : List (Option Reply)) (slot : Slot) → SlotAgrees blocks pool works replies slot → slot.task.lease.count ≡ need_in blocks (command_in works slot.no)
 lease_need blocks pool works replies slot a = a.ready.need ∙ a.need
 
--- a command leaves
-pub agrees_left : (d d' : Desk) (p p' : BookState) (at : ℕ) (reply : Reply) → Agrees d p → at < length d.slots → Leaves d d' at → p'.works ≡ p.works → p'.replies ≡ slice_set p.replies ((slot_at d.slots at).no - 1) (Some reply) → Agrees d' p'
-agrees_left d d' p p' at reply a h l works replies =
+-- a command leaves, and what stands under other numbers stays
+pub agrees_without : (d d' : Desk) (p p' : BookState) (at : ℕ) → Agrees d p → at < length d.slots → Leaves d d' at → p'.works ≡ p.works
+    → ((number : ℕ) → (number == (slot_at d.slots at).no) ≡ false → numbered number p'.replies ≡ numbered number p.replies) → Agrees d' p'
+agrees_without d d' p p' at a h l works replies =
     let slot = slot_at d.slots at in
     let read : slice_get d.slots at ≡ Some slot = slot_read d.slots at h in
     let sa : SlotAgrees (length d.blocks) d.pool p.works p.replies slot = slot_agrees d p at a h in
@@ -101,16 +102,24 @@ agrees_left d d' p p' at reply a h l works replies =
           (ap (λ (s : TaskSet). without slot.no s.commands) a.set ∙ held_without (length d.blocks) slot.no (tasks_in p.works d.slots) ∙ ap (map (held_of (length d.blocks))) (without_at p.works d.slots at slot a.numbers read)))
           (rw (l.set, l.control) (ap (λ (s : TaskSet). s.unrestricted) a.set));
       each =
-          rw (l.slots, l.blocks, works, replies)
-          (each_remove (SlotAgrees (length d.blocks) d.pool p.works p.replies) (SlotAgrees (length d.blocks) d'.pool p.works (slice_set p.replies (slot.no - 1) (Some reply))) number_of key_of d.slots at slot a.each a.numbers a.keys read
-          (λ y ya no key. slot_stays (length d.blocks) d.pool d'.pool p.works p.replies (slice_set p.replies (slot.no - 1) (Some reply)) slot.task.lease.key y ya l.pool.others key
-          (numbered-apart y.no p.replies slot.no (Some reply) (positive slot.no p.works (work.Cmd (command_in p.works slot.no)) sa.command) (other_number y.no slot.no no))));
+          rw (l.slots, l.blocks, works)
+          (each_remove (SlotAgrees (length d.blocks) d.pool p.works p.replies) (SlotAgrees (length d.blocks) d'.pool p.works p'.replies) number_of key_of d.slots at slot a.each a.numbers a.keys read
+          (λ y ya no key. slot_stays (length d.blocks) d.pool d'.pool p.works p.replies p'.replies slot.task.lease.key y ya l.pool.others key (replies y.no no)));
       numbers = rw (l.slots, map_remove number_of d.slots at) (apart_remove (map number_of d.slots) at a.numbers);
       keys = rw (l.slots, map_remove key_of d.slots at) (apart_remove (map key_of d.slots) at a.keys);
       free = rw (l.slots, l.blocks, works, tasks) (omega (arith, fell, count, l.pool.free, l.pool.size, a.free));
       out = rw l.slots (omega (arith, l.pool.out, a.out, length-remove d.slots at h));
       contexts = rw l.set (l.pool.contexts ∙ a.contexts);
     }
+
+-- the same, with its reply
+pub agrees_left : (d d' : Desk) (p p' : BookState) (at : ℕ) (reply : Reply) → Agrees d p → at < length d.slots → Leaves d d' at → p'.works ≡ p.works → p'.replies ≡ slice_set p.replies ((slot_at d.slots at).no - 1) (Some reply) → Agrees d' p'
+agrees_left d d' p p' at reply a h l works replies =
+    let slot = slot_at d.slots at in
+    let sa : SlotAgrees (length d.blocks) d.pool p.works p.replies slot = slot_agrees d p at a h in
+    let given : 0 < slot.no = positive slot.no p.works (work.Cmd (command_in p.works slot.no)) sa.command in
+    agrees_without d d' p p' at a h l works
+    (λ number other. ap (numbered number) replies ∙ numbered-apart number p.replies slot.no (Some reply) given (other_number number slot.no other))
 
 -- a command begins
 pub agrees_begun : (d : Desk) (p p' : BookState) (at : ℕ) → Agrees d p → at < length d.slots → (slot_at d.slots at).begun ≡ false → p'.works ≡ p.works → p'.replies ≡ p.replies

@@ -8,6 +8,7 @@ pub mod Spent
 pub mod Books
 pub mod Does
 pub mod Overs
+pub mod Clears
 pub mod Begins
 pub mod Steps
 pub mod Enters

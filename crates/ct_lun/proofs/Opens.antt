@@ -1,5 +1,5 @@
 -- A unit and its book as they are opened, and the room that is left between two calls.
-use Rattle.std.proofs.Common.{◌≡◌, ℕ, ◌<◌, ◌≤◌, List, [], ◌∷◌, length, replicate, sum_by, refl, arith}
+use Rattle.std.proofs.Common.{◌≡◌, ℕ, ◌+◌, ◌*◌, ◌<◌, ◌≤◌, List, [], ◌∷◌, length, replicate, sum_by, refl, arith}
 use Rattle.std.proofs.lemmas.List.Sums.{sum_by-cons}
 use Rattle.ct_word.specs.declared.limit.TheConstants.{MOST_BLOCKS}
 use Rattle.ct_word.specs.declared.names.LunNo.{LunNo}
@@ -40,16 +40,16 @@ pub opened_room : (lun : LunNo) (depth pool : ℕ) (blocks : List (List ℕ)) (f
 unfolding room_of
 opened_room lun depth pool blocks faults room = omega arith
 
-least_sum : (blocks : ℕ) (works : List KeptWork) (slots : List Slot) → 0 < length slots → 3 ≤ sum_by (task_room blocks) (tasks_in works slots)
-least_sum blocks works [] some = absurd (omega arith)
-least_sum blocks works (x ∷ xs) some =
+least_sum : (blocks : ℕ) (works : List KeptWork) (slots : List Slot) → 3 * length slots ≤ sum_by (task_room blocks) (tasks_in works slots)
+least_sum blocks works [] = omega arith
+least_sum blocks works (x ∷ xs) =
     let task = task_in works x in
-    omega (arith, sum_by-cons (task_room blocks) task (tasks_in works xs), least_room task.stage (length (plan_in blocks task.command)))
+    omega (arith, sum_by-cons (task_room blocks) task (tasks_in works xs), least_room task.stage (length (plan_in blocks task.command)), least_sum blocks works xs)
 
 -- where commands are in the task set there is room for the events of a step
-pub step_spare : (d : Desk) (p : BookState) → room_of (state_of d p) ≤ p.spare → 0 < length d.slots → 3 ≤ p.spare
+pub step_spare : (d : Desk) (p : BookState) → room_of (state_of d p) ≤ p.spare → 0 < length d.slots → length d.slots + 2 ≤ p.spare
 unfolding room_of
-step_spare d p enough some = omega (arith, enough, least_sum (length d.blocks) p.works d.slots some)
+step_spare d p enough some = omega (arith, enough, least_sum (length d.blocks) p.works d.slots, some)
 
 -- where a command can come there is room for the events of an arrival
 pub arrive_spare : (d : Desk) (p : BookState) → room_of (state_of d p) ≤ p.spare → 0 < p.commands → 2 ≤ p.spare

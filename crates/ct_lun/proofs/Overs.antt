@@ -9,7 +9,7 @@ use Rattle.ct_plan.specs.declared.task.PieceEnd.{PieceEnd}
 use Rattle.ct_plan.specs.declared.task.PieceEnd.TheVariants.{All, Miscompare, ReadFault, WriteFault}
 use Rattle.ct_plan.specs.Plans.{puts_among}
 use Rattle.ct_plan.specs.Cells.{Progress}
-use Rattle.ct_plan.specs.Pieces.{fault_in, fault_behind}
+use Rattle.ct_plan.specs.Pieces.{fault_in, fault_behind, faults_at}
 use Rattle.ct_plan.specs.Tasks.{cells_of}
 use Rattle.ct_plan.proofs.Lists.{slice_get-drop, slice_get-take, slice_get-within}
 use Rattle.ct_book.specs.declared.event.Event.{Event}
@@ -25,7 +25,7 @@ use Rattle.ct_lun.specs.declared.slot.Slot.{Slot}
 use Rattle.ct_lun.specs.Desk.{Desk, slot_at}
 use Rattle.ct_lun.specs.States.{command_in, task_in, state_of}
 use Rattle.ct_lun.specs.Agreement.{SlotAgrees, IsLeft, AgreesWith}
-use Rattle.ct_lun.specs.Calls.{Goes, Leaves, Wrote, Spends, Does, IsOver, by_end, by_medium, closed_book, moved_book, moved_journal, replied}
+use Rattle.ct_lun.specs.Calls.{Goes, Leaves, Wrote, Spends, medium_cuts_at, Does, IsOver, by_end, by_medium, closed_book, moved_book, moved_journal, replied}
 use Rattle.ct_lun.specs.Acts.{going}
 use Rattle.ct_lun.specs.declared.said.Reached.TheVariants as reached
 use Rattle.ct_lun.specs.Reached.{reached_by}
@@ -36,18 +36,19 @@ use Rattle.ct_lun.proofs.Turns.{ended_answer, ends_ended, ends_cut}
 use Rattle.ct_lun.proofs.Effects.{wrote_then, over_wrote}
 use Rattle.ct_lun.proofs.Moves.{slot_progress, moved_wrote, moved_few, moved_fewer}
 use Rattle.ct_lun.proofs.Spent.{left_spends, moved_spends}
-use Rattle.ct_lun.proofs.Does.{does_from, gone_slot, gone_within, test_true, test_false, equal, at_end}
+use Rattle.ct_lun.proofs.Does.{medium_cuts-append, moved_uncut, does_from, unfaulted, gone_slot, gone_within, test_true, test_false, equal, at_end}
 
 over_ends : (number : ℕ) (e : Event) (reply : Reply) → IsOver number e → list_any (λ (logged : Logged). ends number logged.event) (replied e reply ∷ []) ≡ true
-over_ends number e reply by_end = ends_ended number reply
+over_ends number e reply by_end = ends_ended number reply []
 over_ends number e reply (by_medium puts) = ends_cut number puts false reply
 
 -- a command that went on and is over by this event
 pub over_does : (d d1 d' : Desk) (p p1 p' : BookState) (at count : ℕ) (piece : Piece) (e : Event) (reply : Reply) → AgreesWith d p → at < length d.slots → (slot_at d.slots at).begun ≡ true → 2 ≤ p.spare
     → Goes d d1 at count (command_in p.works (slot_at d.slots at).no).out piece → p1 ≡ moved_book p (slot_at d.slots at).no piece.moved → IsOver (slot_at d.slots at).no e → Leaves d1 d' at → p' ≡ closed_book p1 (slot_at d.slots at).no reply e
     → (moving_from (task_in p.works (slot_at d.slots at)) count (fault_in piece) (slot_at d.slots at).task.done (slot_at d.slots at).task.body.items (state_of d p)).journal ≡ moved_journal (slot_at d.slots at).no piece.moved ++ replied e reply ∷ []
+    → medium_cuts_at e ≡ faults_at (fault_in piece)
     → Does d d' p p' (going d p at count) (answer.Ended (slot_at d.slots at).no (line_by (arrival_of (slot_at d.slots at).no (state_of d p))))
-over_does d d1 d' p p1 p' at count piece e reply a h begun room g book over l closed journal =
+over_does d d1 d' p p1 p' at count piece e reply a h begun room g book over l closed journal cuts =
     let slot = slot_at d.slots at in
     let out = (command_in p.works slot.no).out in
     let h1 : at < length d1.slots = gone_within d d1 at count out piece h g in
@@ -66,7 +67,8 @@ over_does d d1 d' p p1 p' at count piece e reply a h begun room g book over l cl
     (rw (l.slots, g.slots, remove_set d.slots at (record slot { task = g.task })) (each_drop IsLeft d.slots at a.left))
     journal
     (ap (moved_answer slot.no (state_of d p)) journal ∙ ended_answer slot.no (state_of d p) (moved_journal slot.no piece.moved ++ replied e reply ∷ []) ended)
-    (λ f. omega (arith, g.cause f, l.faults)) (omega (arith, g.later, l.faults))
+    (omega (arith, g.counted, l.faults))
+    (omega (arith, medium_cuts-append (moved_journal slot.no piece.moved) (replied e reply ∷ []), moved_uncut slot.no piece.moved, cuts))
 
 -- it ends
 pub end_does : (d d1 d' : Desk) (p p1 p' : BookState) (at count : ℕ) (piece : Piece) (reply : Reply) → AgreesWith d p → at < length d.slots → (slot_at d.slots at).begun ≡ true → 2 ≤ p.spare
@@ -89,6 +91,7 @@ end_does d d1 d' p p1 p' at count piece reply a h begun room g book l told close
     ∙ ap (λ (j : List Logged). moved_journal slot.no piece.moved ++ j)
     (end_journal (task_in p.works slot) plan (slot.task.done + piece.moved) g.task.body.items (take count (drop slot.task.done plan)) (fault_in piece) (moving_on slot.no piece.moved (state_of d p)).state test
     ∙ ap (λ (r : Reply). replied (event.Ended slot.no) r ∷ []) (sym body)))
+    (sym (ap faults_at (unfaulted piece (Some All) ended refl)))
 
 -- it finds a difference
 pub differs_does : (d d1 d' : Desk) (p p1 p' : BookState) (at count : ℕ) (piece : Piece) (offset : ℕ) (reply : Reply)
@@ -113,6 +116,7 @@ differs_does d d1 d' p p1 p' at count piece offset reply a h begun room g book l
     (moving_at (task_in p.works slot) count (fault_in piece) slot.task.done slot.task.body.items (state_of d p) far
     (slot_progress d d1 p at count piece a.base h g (Some offset) (ap difference_of ended))
     ∙ ap (λ (r : Reply). moved_journal slot.no piece.moved ++ replied (event.Ended slot.no) r ∷ []) told)
+    (sym (ap faults_at (unfaulted piece (Some (Miscompare offset)) ended refl)))
 
 -- a piece that ended in a fault found no difference
 fault_even : (moved : ℕ) (end : Option PieceEnd) → fault_behind moved end ≡ Some moved → difference_of end ≡ None
@@ -154,6 +158,7 @@ cut_does d d1 d' p p1 p' at count piece operation reply puts a h begun room g bo
     (cut_journal (task_in p.works slot) plan (slot.task.done + piece.moved) g.task.body.items operations piece.moved operation (moving_on slot.no piece.moved (state_of d p)).state test found
     ∙ ap (λ (n : ℕ). replied (event.Cut slot.no n Medium false) (reply_failed (moving_on slot.no piece.moved (state_of d p)).state.control operation) ∷ []) told_puts
     ∙ ap (λ (r : Reply). replied (event.Cut slot.no puts Medium false) r ∷ []) told_why))
+    (sym (ap faults_at fault))
 
 -- how far a piece came
 

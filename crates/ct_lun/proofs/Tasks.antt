@@ -141,7 +141,7 @@ held_queued blocks new tasks = go (is_head new.command.attr)
     go true = held_before blocks new tasks
     go false = map_push (held_of blocks) tasks new
 
-waiting_stage : (slot : Slot) → is_waiting (stage_of slot) ≡ not slot.begun
+pub waiting_stage : (slot : Slot) → is_waiting (stage_of slot) ≡ not slot.begun
 waiting_stage slot = go slot.begun
   where
     go : (begun : Bool) → is_waiting (if begun then Here slot.task.done slot.task.body.items else Waiting) ≡ not begun

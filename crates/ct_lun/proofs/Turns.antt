@@ -158,15 +158,15 @@ ended_answer number s journal h = rw h refl
 pub part_answer : (number : ℕ) (s : State) (journal : List Logged) → list_any (λ (logged : Logged). ends number logged.event) journal ≡ false → moved_answer number s journal ≡ answer.Moved number
 part_answer number s journal h = rw h refl
 
-pub ends_ended : (number : ℕ) (reply : Reply) → list_any (λ (logged : Logged). ends number logged.event) (replied (event.Ended number) reply ∷ []) ≡ true
-ends_ended number reply = rw (equal_number number) refl
+pub ends_ended : (number : ℕ) (reply : Reply) (rest : List Logged) → list_any (λ (logged : Logged). ends number logged.event) (replied (event.Ended number) reply ∷ rest) ≡ true
+ends_ended number reply rest = rw (equal_number number) refl
 
 pub ends_cut : (number puts : ℕ) (told : Bool) (reply : Reply) → list_any (λ (logged : Logged). ends number logged.event) (replied (event.Cut number puts Medium told) reply ∷ []) ≡ true
 ends_cut number puts told reply = rw (equal_number number) refl
 
--- no nexus is cleared
+-- a command that is refused clears no nexus
 
-pub and_false : (b : Bool) → (b && false) ≡ false
+and_false : (b : Bool) → (b && false) ≡ false
 and_false true = refl
 and_false false = refl
 
@@ -179,7 +179,7 @@ none_contained : (nexus : Nexus) → contains no_nexuses nexus ≡ false
 unfolding no_nexuses
 none_contained nexus = none_replicated 256 (place_of nexus)
 
-pub nothing_cleared : (t : Task) → is_cleared no_nexuses t ≡ false
+nothing_cleared : (t : Task) → is_cleared no_nexuses t ≡ false
 nothing_cleared t = ap (λ (b : Bool). is_waiting t.stage && b) (none_contained t.command.nexus) ∙ and_false (is_waiting t.stage)
 
 clearing_none : (by : ℕ) (found : Option Task) (s : State) → clearing by no_nexuses found s ≡ record { state = s; journal = [] }

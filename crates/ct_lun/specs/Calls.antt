@@ -1,11 +1,10 @@
 -- What the calls of a unit do.
-use Rattle.std.specs.Prelude.{◌≡◌, ℕ, zero, suc, ◌+◌, ◌-◌, ◌<◌, ◌≤◌, List, [], ◌++◌, ◌∷◌, length, Option, None, Some, IsSome, slice_set, remove, false}
-use Rattle.ct_word.specs.Nexuses.{no_nexuses}
+use Rattle.std.specs.Prelude.{◌≡◌, ℕ, zero, suc, ◌+◌, ◌-◌, ◌≤◌, List, [], ◌++◌, ◌∷◌, length, Option, None, Some, slice_set, remove, Bool, false}
 use Rattle.ct_sense.specs.declared.reply.Reply.{Reply}
 use Rattle.ct_pool.specs.Leases.{Gives}
 use Rattle.ct_plan.specs.declared.task.Task.{Task as PlanTask}
 use Rattle.ct_plan.specs.declared.task.Piece.{Piece}
-use Rattle.ct_plan.specs.Pieces.{Advances, Uses, fault_in}
+use Rattle.ct_plan.specs.Pieces.{Advances, Uses, fault_in, faults_at}
 use Rattle.ct_plan.specs.Tasks.{IsReady, asked}
 use Rattle.ct_matrix.specs.Queues.{without}
 use Rattle.ct_book.specs.declared.event.Event.{Event}
@@ -20,14 +19,15 @@ use Rattle.ct_machine.specs.declared.act.Answer.{Answer}
 use Rattle.ct_machine.specs.declared.act.Answer.TheVariants as answer
 use Rattle.ct_machine.specs.States.{State, arrival_of}
 use Rattle.ct_machine.specs.Events.{after_events}
-use Rattle.ct_machine.specs.Acts.{Done, line_by}
+use Rattle.ct_machine.specs.Acts.{Done, line_by, clearing_all}
 use Rattle.ct_lun.specs.declared.said.Entered.{Entered}
 use Rattle.ct_lun.specs.declared.said.Entered.TheVariants as entered
 use Rattle.ct_lun.specs.declared.said.Stepped.{Stepped}
 use Rattle.ct_lun.specs.declared.said.Stepped.TheVariants as stepped
+use Rattle.ct_lun.specs.Apart.{Each}
 use Rattle.ct_lun.specs.Desk.{Desk, slot_at, with_control}
 use Rattle.ct_lun.specs.States.{command_in, state_of}
-use Rattle.ct_lun.specs.Agreement.{Agrees, AgreesWith}
+use Rattle.ct_lun.specs.Agreement.{IsLeft, Agrees, AgreesWith}
 use Rattle.ct_lun.specs.Rooms.{room_of}
 
 -- the command at a place made some operations on the medium
@@ -39,8 +39,7 @@ pub record Goes (desk desk' : Desk) (at count : ℕ) (out : List ℕ) (piece : P
   pub ready : IsReady (length out) (length desk'.blocks) desk'.pool task
   pub control : desk'.control ≡ desk.control
   pub set : desk'.set ≡ desk.set
-  pub cause : IsSome (fault_in piece) → desk.faults < desk'.faults
-  pub later : desk.faults ≤ desk'.faults
+  pub counted : desk'.faults ≡ desk.faults + faults_at (fault_in piece)
 
 -- the command at a place left the task set, and its blocks are free
 pub record Leaves (desk desk' : Desk) (at : ℕ) : Type 0 where
@@ -88,18 +87,36 @@ moved_journal number (suc count) = told (event.Moved number (suc count)) ∷ []
 abbrev pub moved_book : BookState → ℕ → ℕ → BookState
 moved_book book number count = record book { journal = book.journal ++ moved_journal number count; spare = book.spare - length (moved_journal number count) }
 
--- the command at a place was executed at once, which left the blocks as they were, and cleared no nexus
-pub record EndsAtOnce (desk desk' : Desk) (book book' : BookState) (at : ℕ) : Type 0 where
+-- the command at a place was executed at once, which left the blocks as they were, and cleared these nexuses, of which
+-- no command was cut yet
+pub record EndsAtOnce (desk desk' : Desk) (book book' : BookState) (at : ℕ) (cleared : List Bool) : Type 0 where
   pub reply : Reply
   pub leaves : Leaves (with_control desk desk'.control) desk' at
-  pub execution : execute (record { control = desk.control; blocks = desk.blocks }) (command_in book.works (slot_at desk.slots at).no) ≡ record { disk = record { control = desk'.control; blocks = desk.blocks }; reply = reply; cleared = no_nexuses }
+  pub execution : execute (record { control = desk.control; blocks = desk.blocks }) (command_in book.works (slot_at desk.slots at).no) ≡ record { disk = record { control = desk'.control; blocks = desk.blocks }; reply = reply; cleared = cleared }
   pub kept : book' ≡ closed_book book (slot_at desk.slots at).no reply (event.Ended (slot_at desk.slots at).no)
 
 -- the room that the state asks for fell by as many events at least
 abbrev pub Spends : Desk → Desk → BookState → BookState → ℕ → Type 0
 Spends desk desk' book book' count = room_of (state_of desk' book') + count ≤ room_of (state_of desk book)
 
--- a call did what the machine does, with a fault of the medium only where its count rose
+-- how many commands were cut by a fault of the medium
+abbrev pub medium_cuts_at : Event → ℕ
+medium_cuts_at (event.Cut number puts Medium told) = 1
+medium_cuts_at _ = 0
+
+abbrev pub medium_cuts : List Logged → ℕ
+medium_cuts [] = 0
+medium_cuts (logged ∷ journal) = medium_cuts_at logged.event + medium_cuts journal
+
+-- of the commands with these numbers, in their order, the waiting ones of these nexuses were cut by a command that cleared
+-- the nexuses
+pub record Clears (desk desk' : Desk) (book book' : BookState) (by : ℕ) (cleared : List Bool) (numbers : List ℕ) : Type 0 where
+  pub wrote : Wrote desk desk' book book' (clearing_all by cleared numbers (state_of desk book)).journal
+  pub spends : Spends desk desk' book book' (length (clearing_all by cleared numbers (state_of desk book)).journal)
+  pub left : Each IsLeft desk'.slots
+  pub faults : desk'.faults ≡ desk.faults
+
+-- a call did what the machine does; where the medium failed once, one command was cut for it, and else none
 pub record Does (desk desk' : Desk) (book book' : BookState) (outcome : Option ℕ → Done) (said : Answer) : Type 0 where
   pub fault : Option ℕ
   pub journal : book'.journal ≡ book.journal ++ (outcome fault).turn.journal
@@ -108,8 +125,8 @@ pub record Does (desk desk' : Desk) (book book' : BookState) (outcome : Option �
   pub agrees : AgreesWith desk' book'
   pub spare : book'.spare + length (outcome fault).turn.journal ≡ book.spare
   pub room : room_of (state_of desk' book') + length (outcome fault).turn.journal ≤ room_of (state_of desk book)
-  pub cause : IsSome fault → desk.faults < desk'.faults
-  pub later : desk.faults ≤ desk'.faults
+  pub counted : desk'.faults ≡ desk.faults + faults_at fault
+  pub cuts : medium_cuts (outcome fault).turn.journal ≡ faults_at fault
 
 -- the machine's answers
 abbrev pub entered_as : Option Reply → Entered

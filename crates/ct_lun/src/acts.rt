@@ -1,6 +1,6 @@
 //! What is done to a unit.
 
-ghost use Rattle.std.specs.Prelude.{◌≡◌, ◌<◌, ◌≤◌, length, true, false, None, IfSome, IfNone, IsNone, IsSomeAnd};
+ghost use Rattle.std.specs.Prelude.{◌≡◌, ◌+◌, ◌<◌, ◌≤◌, length, true, false, None, IfSome, IfNone, IsNone, IsSomeAnd};
 ghost use Rattle.ct_matrix.specs.Queues.{command_of, blocker_of, next_ready_of, first_begun_of};
 ghost use Rattle.ct_machine.specs.Acts.{first_some};
 ghost use Rattle.ct_lun.specs.Desk.{Desk, slot_at, slot_of};
@@ -60,7 +60,7 @@ impl<B: Backend> Lun<B> {
         requires within { at < length self.old.slots }
         requires agrees { AgreesWith self.old book.old }
         requires waits { (slot_at self.old.slots at).begun ≡ false }
-        requires room { 3 ≤ book.old.spare }
+        requires room { length self.old.slots + 2 ≤ book.old.spare }
         ensures { Does self.old self.new book.old book.new (beginning_by self.old book.old at blocks) (said (slot_at self.old.slots at).no (state_of self.old book.old) result) }
     {
         let no = self.slot(at).no;
@@ -79,11 +79,13 @@ impl<B: Backend> Lun<B> {
         requires agrees { AgreesWith self.old book.old }
         requires waits { (slot_at self.old.slots at).begun ≡ false }
         requires unrefused { refusal_of self.old.control (length self.old.blocks) (command_in book.old.works (slot_at self.old.slots at).no) ≡ None }
-        requires room { 3 ≤ book.old.spare }
+        requires room { length self.old.slots + 2 ≤ book.old.spare }
         ensures { Does self.old self.new book.old book.new (beginning_by self.old book.old at blocks) (said (slot_at self.old.slots at).no (state_of self.old book.old) result) }
     {
         if self.slot(at).task.plan.length() == 0 {
-            self.end_at_once(at, book);
+            let no = self.slot(at).no;
+            let cleared = self.end_at_once(at, book);
+            self.clear(no, &cleared, book);
             return Stepped::Ended;
         }
         self.start(at, book);
@@ -94,7 +96,7 @@ impl<B: Backend> Lun<B> {
     fn step_at(&mut self, at: usize, blocks: u32, book: &mut Book) -> Stepped
         requires within { at < length self.old.slots }
         requires agrees { AgreesWith self.old book.old }
-        requires room { 3 ≤ book.old.spare }
+        requires room { length self.old.slots + 2 ≤ book.old.spare }
         ensures { Does self.old self.new book.old book.new (stepping_by self.old book.old at blocks) (said (slot_at self.old.slots at).no (state_of self.old book.old) result) }
     {
         if self.slot(at).begun {
@@ -118,7 +120,7 @@ impl<B: Backend> Lun<B> {
     /// Moves a command by at most so many block operations, where nothing makes it wait.
     pub fn step(&mut self, no: CmdNo, blocks: u32, book: &mut Book) -> Stepped
         requires agrees { AgreesWith self.old book.old }
-        requires room { 0 < length self.old.slots → 3 ≤ book.old.spare }
+        requires room { 0 < length self.old.slots → length self.old.slots + 2 ≤ book.old.spare }
         ensures { Does self.old self.new book.old book.new (step_of self.old book.old no blocks) (said no (state_of self.old book.old) result) }
     {
         match self.find(no) {
@@ -144,7 +146,7 @@ impl<B: Backend> Lun<B> {
     /// A step of the first command that is ready, or else of the first that began; None where the task set is empty.
     pub fn next(&mut self, blocks: u32, book: &mut Book) -> Option<(CmdNo, Stepped)>
         requires agrees { AgreesWith self.old book.old }
-        requires room { 0 < length self.old.slots → 3 ≤ book.old.spare }
+        requires room { 0 < length self.old.slots → length self.old.slots + 2 ≤ book.old.spare }
         ensures { Does self.old self.new book.old book.new (next_of self.old book.old blocks) (said_next (state_of self.old book.old) result) }
     {
         match self.next_no() {

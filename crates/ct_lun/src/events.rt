@@ -3,7 +3,6 @@
 ghost use Rattle.std.specs.Prelude.{◌≡◌, ◌<◌, ◌≤◌, [], ◌∷◌, length, take, slice_get, slice_set, Some, None, IfSome, true, false};
 ghost use Rattle.ct_plan.specs.Plans.{puts_among};
 ghost use Rattle.ct_matrix.specs.Queues.{with_begun};
-ghost use Rattle.ct_word.specs.Nexuses.{no_nexuses};
 ghost use Rattle.ct_book.specs.Works.{room_for};
 ghost use Rattle.ct_book.specs.Journals.{numbered};
 ghost use Rattle.ct_book.specs.Kept.{IsCommandNo};
@@ -17,12 +16,12 @@ ghost use Rattle.ct_lun.specs.Calls.{Goes, Leaves, IsOver, EndsAtOnce, Wrote, Sp
 use crate::mechanics::command;
 use crate::unit::Lun;
 use ct_book::{Book, Command, Event};
-use ct_exec::{Refusal, failed, instant, miscompared, moved_reply};
+use ct_exec::{Instant, Refusal, failed, instant, miscompared, moved_reply};
 use ct_matrix::Waits;
 use ct_medium::Backend;
 use ct_plan::Piece;
 use ct_sense::Reply;
-use ct_word::{CmdNo, Reserve};
+use ct_word::{CmdNo, NexusSet, Reserve};
 
 impl<B: Backend> Lun<B> {
     /// Makes the next operations of a command that began, and writes how many they were.
@@ -80,8 +79,8 @@ impl<B: Backend> Lun<B> {
         close(no, reply_with(refusal, body), event, book);
     }
 
-    // The reply of a command that is executed at once, which clears no nexus.
-    fn instant(&mut self, command: &Command, body: Reserve<u8>) -> Reply
+    // What a command comes to that is executed at once.
+    fn instant(&mut self, command: &Command, body: Reserve<u8>) -> Instant
         requires unrefused { refusal_of self.old.control (length self.old.blocks) command.now ≡ None }
         requires unplanned { plan_in (length self.old.blocks) command.now ≡ [] }
         requires empty { body.items ≡ [] }
@@ -90,30 +89,32 @@ impl<B: Backend> Lun<B> {
         ensures done { execute (record { control = self.old.control; blocks = self.old.blocks }) command.now
             ≡ record {
               disk = record { control = self.new.control; blocks = self.old.blocks };
-              reply = result;
-              cleared = no_nexuses;
+              reply = result.reply;
+              cleared = result.cleared;
             } }
     {
         let blocks = self.medium.len();
         let done = instant(&mut self.control, command, body, blocks);
         self.queue.set_order(self.control.is_unrestricted());
-        done.reply
+        done
     }
 
-    /// Executes a command at once that nothing refuses and that has no block operation.
-    pub(crate) fn end_at_once(&mut self, at: usize, book: &mut Book)
+    /// Executes a command at once that nothing refuses and that has no block operation, and hands out the nexuses whose
+    /// waiting commands are to be cut behind it.
+    pub(crate) fn end_at_once(&mut self, at: usize, book: &mut Book) -> NexusSet
         requires within { at < length self.old.slots }
         requires agrees { Agrees self.old book.old }
         requires waits { (slot_at self.old.slots at).begun ≡ false }
         requires unrefused { refusal_of self.old.control (length self.old.blocks) (command_in book.old.works (slot_at self.old.slots at).no) ≡ None }
         requires none { (slot_at self.old.slots at).task.plan.operations ≡ [] }
         requires room { 0 < book.old.spare }
-        ensures { EndsAtOnce self.old self.new book.old book.new at }
+        ensures { EndsAtOnce self.old self.new book.old book.new at result }
     {
         let no = self.slot(at).no;
         let body = self.take_out(at);
-        let reply = self.instant(command(no, book), body);
+        let Instant { reply, cleared } = self.instant(command(no, book), body);
         close(no, reply, Event::Ended { no }, book);
+        cleared
     }
 
     /// A waiting command begins.

@@ -2,6 +2,7 @@
 #![tactic(auto)]
 
 mod acts;
+mod clearing;
 mod entering;
 mod events;
 mod mechanics;

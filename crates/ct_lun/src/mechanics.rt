@@ -1,6 +1,7 @@
 //! Steps of a unit that write no event.
 
 ghost use Rattle.std.specs.Prelude.{◌≡◌, ◌+◌, ◌<◌, ◌≤◌, length, slice_set, IfSome, IfNone, IsNone, IsSome, IsSomeAnd, true, false, option_map};
+ghost use Rattle.ct_word.specs.Nexuses.{IsNexus};
 ghost use Rattle.ct_pool.specs.Leases.{IsLeaseOf};
 ghost use Rattle.ct_plan.specs.Tasks.{IsReady};
 ghost use Rattle.ct_matrix.specs.Queues.{command_of, placed, with_begun};
@@ -30,6 +31,13 @@ impl<B: Backend> Lun<B> {
         ensures { result.now ≡ slot_at self.now.slots at }
     {
         &self.slots.as_slice()[at]
+    }
+
+    /// How many commands are in the task set.
+    pub(crate) fn count(&self) -> usize
+        ensures { result ≡ length self.now.slots }
+    {
+        self.slots.len()
     }
 
     /// Puts a command into the task set.
@@ -125,7 +133,8 @@ fn place_in(slots: &mut Reserve<Slot>, attr: Attr2, slot: Slot)
 /// The command with a number.
 pub(crate) fn command(no: CmdNo, book: &Book) -> &Command
     requires { IsCommandNo book.now no }
-    ensures { result.now ≡ command_in book.now.works no }
+    ensures command { result.now ≡ command_in book.now.works no }
+    ensures nexus { IsNexus result.now.nexus }
 {
     match book.work(no) {
         Some(Work::Cmd(command)) => command,

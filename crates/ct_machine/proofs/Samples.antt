@@ -14,3 +14,4 @@ pub mod Queries
 pub mod ClearTaskSet
 pub mod StopsAtB
 pub mod SmallRoom
+pub mod PreemptAndAbort

@@ -4,6 +4,8 @@ use Rattle.std.specs.List.{list_any, filter}
 use Rattle.ct_word.specs.declared.names.Room.{Room}
 use Rattle.ct_word.specs.Nexuses.{contains}
 use Rattle.ct_tmf.specs.declared.function.Ask.{Ask}
+use Rattle.ct_tmf.specs.declared.function.Outcome.{Outcome}
+use Rattle.ct_tmf.specs.declared.function.Outcome.TheVariants.{Complete, Succeeded, Rejected}
 use Rattle.ct_tmf.specs.Reaches.{hits}
 use Rattle.ct_sense.specs.declared.reply.Reply.{Reply}
 use Rattle.ct_plan.specs.declared.operation.BlockOp.{BlockOp}
@@ -166,6 +168,36 @@ RecordsPrefixAt o before _ = Unit {0}
 abbrev pub RecordsPrefix : Opening → List Logged → Type 0
 RecordsPrefix o journal = Each (λ before logged. RecordsPrefixAt o before logged.event) journal
 
+-- Kinds: each event is one of a work of its kind
+
+-- a command has this number
+abbrev pub IsCommand : List Logged → ℕ → Type 0
+IsCommand before number = (command : Command) × IsCommandOf before number command
+
+abbrev pub is_rejected : Outcome → Bool
+is_rejected Rejected = true
+is_rejected Complete = false
+is_rejected Succeeded = false
+
+-- a command is cut by a work that came; a function is closed that was taken up, exactly where it isn't rejected
+abbrev pub IsOfItsKind : List Logged → Event → Type 0
+IsOfItsKind before (event.Came number node line) = Unit {0}
+IsOfItsKind before (event.Enter number) = IsCommand before number
+IsOfItsKind before (event.Turned number) = IsCommand before number
+IsOfItsKind before (event.Begun number) = IsCommand before number
+IsOfItsKind before (event.Granted number) = IsCommand before number
+IsOfItsKind before (event.Moved number count) = IsCommand before number
+IsOfItsKind before (event.Ended number) = IsCommand before number
+IsOfItsKind before (event.Cut number puts (By by) told) = IsCommand before number × (is_some (work_in by before) ≡ true)
+IsOfItsKind before (event.Cut number puts Medium told) = IsCommand before number
+IsOfItsKind before (event.Asked number) = (ask : Ask) × IsFunctionOf before number ask
+IsOfItsKind before (event.Closed number outcome) =
+    (ask : Ask) × IsFunctionOf before number ask × (has (is_asked number) before ≡ not (is_rejected outcome))
+IsOfItsKind before (event.Deliver node kind number) = Unit {0}
+
+abbrev pub IsTyped : List Logged → Type 0
+IsTyped journal = Each (λ before logged. IsOfItsKind before logged.event) journal
+
 -- Cells: the blocks beside the journal
 
 -- the blocks, and of one command the data so far and the difference that it found
@@ -209,6 +241,26 @@ RepliesByCells o before (event.Ended number) replied =
     replied ≡ Some (reply_moved (serial_disk o before).control found.difference found.got)
 RepliesByCells o before _ replied = Unit {0}
 
+-- a command that found a difference isn't moved on, nor cut; one that ends behind its begin without a difference made its
+-- whole plan
+abbrev pub MakesPlanAt : Opening → List Logged → Event → Type 0
+MakesPlanAt o before (event.Moved number count) = (beside o number before).difference ≡ None
+MakesPlanAt o before (event.Cut number puts why told) = (beside o number before).difference ≡ None
+MakesPlanAt o before (event.Ended number) =
+    has (is_begin number) before ≡ true → (beside o number before).difference ≡ None →
+    (command : Command) → IsCommandOf before number command → made_by number before ≡ length (plan_in o.blocks command)
+MakesPlanAt o before (event.Came number node line) = Unit {0}
+MakesPlanAt o before (event.Enter number) = Unit {0}
+MakesPlanAt o before (event.Turned number) = Unit {0}
+MakesPlanAt o before (event.Begun number) = Unit {0}
+MakesPlanAt o before (event.Granted number) = Unit {0}
+MakesPlanAt o before (event.Asked number) = Unit {0}
+MakesPlanAt o before (event.Closed number outcome) = Unit {0}
+MakesPlanAt o before (event.Deliver node kind number) = Unit {0}
+
+abbrev pub MakesPlans : Opening → List Logged → Type 0
+MakesPlans o journal = Each (λ before logged. MakesPlanAt o before logged.event) journal
+
 -- replies and blocks are those of the cells
 pub record IsByCells (o : Opening) (journal : List Logged) : Type 0 where
   pub replies : Each (λ before logged. RepliesByCells o before logged.event logged.reply) journal
@@ -226,6 +278,11 @@ abbrev pub RepliesAsExecuted : Opening → List Logged → ℕ → Option Reply 
 RepliesAsExecuted o before number replied =
     (command : Command) × IsCommandOf before number command
     × (replied ≡ Some (execute (serial_disk o before) command).reply)
+
+-- a command enters where there is no cause to refuse it
+abbrev pub IsEntering : Opening → List Logged → ℕ → Type 0
+IsEntering o before number =
+    (command : Command) × IsCommandOf before number command × (turned_cause (replay o before) command ≡ None)
 
 -- a command is refused at its arrival for the first cause that there is
 abbrev pub IsTurnedFor : Opening → List Logged → ℕ → Option Reply → Type 0
@@ -252,13 +309,14 @@ IsLegalAt o before _ replied = Unit {0}
 abbrev pub IsLegal : Opening → List Logged → Type 0
 IsLegal o journal = Each (λ before logged. IsLegalAt o before logged.event logged.reply) journal
 
--- also where reordering is unrestricted: a command that made no block operation has the reply of its whole execution,
--- and one that made some would be refused by no check at its entry
+-- also where reordering is unrestricted: a command enters where no cause refuses it; one that made no block operation has
+-- the reply of its whole execution, and one that made some would be refused by no check at its entry
 abbrev pub IsSoundAt : Opening → List Logged → Event → Option Reply → Type 0
 IsSoundAt o before (event.Ended number) replied =
     (has (is_begin number) before ≡ false → RepliesAsExecuted o before number replied)
     × ((command : Command) → IsCommandOf before number command → has (is_begin number) before ≡ true →
     refusal_of (serial_disk o before).control o.blocks command ≡ None)
+IsSoundAt o before (event.Enter number) replied = IsEntering o before number
 IsSoundAt o before (event.Turned number) replied = IsTurnedFor o before number replied
 IsSoundAt o before (event.Cut number puts why told) replied = IsCutFor o before number why replied
 IsSoundAt o before _ replied = Unit {0}
@@ -322,7 +380,9 @@ pub record IsLawful (o : Opening) (journal : List Logged) : Type 0 where
   pub legal : IsRestricted o journal → IsLegal o journal
   pub sound : IsSound o journal
   pub once : EachOnce o journal
+  pub typed : IsTyped journal
   pub orderly : IsOrderly o journal
+  pub plans : MakesPlans o journal
   pub prefix : RecordsPrefix o journal
   pub cells : IsByCells o journal
   pub timely : IsTimely o journal

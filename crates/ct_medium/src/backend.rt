@@ -3,7 +3,7 @@ ghost use Rattle.ct_word.specs.Causes.{HasCause, no_end};
 
 use ct_word::{Block, Failed};
 
-/// Blocks of 512 bytes. A call that fails changes none of them, and raises the count of faults.
+/// Blocks of 512 bytes. A call that fails changes none of them, and raises the count of faults by one; no other does.
 pub trait Backend: Drop {
     ghost blocks: { Self → List (List ℕ) };
 

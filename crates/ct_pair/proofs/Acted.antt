@@ -27,9 +27,12 @@ use Rattle.ct_lun.specs.States.{at_a, state_of}
 use Rattle.ct_lun.specs.Agreement.{AgreesWith}
 use Rattle.ct_lun.specs.Rooms.{room_of}
 use Rattle.ct_lun.specs.Calls.{Does}
-use Rattle.ct_pair.specs.Pairs.{medium_cuts, IsPair, Acts}
+use Rattle.ct_lun.specs.Calls.{medium_cuts}
+use Rattle.ct_plan.specs.Pieces.{faults_at}
+use Rattle.ct_pair.specs.Pairs.{IsPair, Acts}
 use Rattle.ct_pair.proofs.Events.{functions_stay, arrivals_stay}
-use Rattle.ct_pair.proofs.Steps.{medium_cuts-append, most_cuts, comes, steps, steps_next}
+use Rattle.ct_lun.proofs.Does.{medium_cuts-append}
+use Rattle.ct_pair.proofs.Steps.{steps, steps_next}
 
 -- a run grows by an act that can come
 
@@ -53,26 +56,24 @@ pub record Did (o : Opening) (d d' : Desk) (p p' : BookState) (a : Act) (fault :
   pub state : state_of d' p' ≡ after_events (state_of d p) (act_of (state_of d p) a fault).journal
   pub agrees : AgreesWith d' p'
   pub room : room_of (state_of d' p') ≤ p'.spare
-  pub few : medium_cuts (act_of (state_of d p) a fault).journal ≤ most_cuts fault
-  pub cause : IsSome fault → d.faults < d'.faults
-  pub later : d.faults ≤ d'.faults
+  pub cuts : medium_cuts (act_of (state_of d p) a fault).journal ≡ faults_at fault
+  pub counted : d'.faults ≡ d.faults + faults_at fault
 
-counted : (fault : Option ℕ) (cuts old new : ℕ) → cuts ≤ most_cuts fault → (IsSome fault → old < new) → old ≤ new → cuts + old ≤ new
-counted None cuts old new few cause later = omega (arith, few, later)
-counted (Some place) cuts old new few cause later = let rose = cause refl in omega (arith, few, rose)
+rises : (fault : Option ℕ) (old new : ℕ) → new ≡ old + faults_at fault → IsSome fault → old < new
+rises None old new counted some = absurd (false≢true some)
+rises (Some place) old new counted some = omega (arith, counted)
 
 pub is_pair : (o : Opening) (d d' : Desk) (p p' : BookState) (a : Act) (fault : Option ℕ) → IsPair o d p → IsAllowed o a → Did o d d' p p' a fault → IsPair o d' p'
 is_pair o d d' p p' a fault h allowed did =
     let es = (act_of (state_of d p) a fault).journal in
     let cuts = medium_cuts-append p.journal es in
-    let counts = counted fault (medium_cuts es) d.faults d'.faults did.few did.cause did.later in
     record {
       single = h.single;
       state = did.state ∙ ap (λ (s : State). after_events s es) h.state ∙ sym (replay-append o p.journal es) ∙ ap (replay o) (sym did.journal);
       run = subst (IsRun o) (ap (λ (s : State). p.journal ++ (act_of s a fault).journal) (sym h.state) ∙ sym did.journal) (run_more o p.journal a fault allowed h.run);
       agrees = did.agrees;
       room = did.room;
-      cuts = rw did.journal (omega (arith, cuts, counts, h.cuts));
+      cuts = rw did.journal (omega (arith, cuts, did.cuts, did.counted, h.cuts));
     }
 
 pub acted : (o : Opening) (d d' : Desk) (p p' : BookState) (a : Act) (fault : Option ℕ) (said : Answer) → IsPair o d p → Did o d d' p p' a fault → said ≡ (act_of (state_of d p) a fault).answer
@@ -82,23 +83,22 @@ acted o d d' p p' a fault said h did answered = record {
   journal = did.journal ∙ ap (λ (s : State). p.journal ++ (act_of s a fault).journal) h.state;
   answer = answered ∙ ap (λ (s : State). (act_of s a fault).answer) h.state;
   opening = refl;
-  cause = did.cause;
-  later = did.later;
+  cause = rises fault d.faults d'.faults did.counted;
+  later = omega (arith, did.counted);
+  counted = did.counted;
 }
 
 -- what a call of the unit does
 
-did_by : (o : Opening) (d d' : Desk) (p p' : BookState) (a : Act) (said : Answer) → IsPair o d p → (x : Does d d' p p' (doing (state_of d p) a) said)
-    → medium_cuts (doing (state_of d p) a x.fault).turn.journal ≤ most_cuts x.fault → Did o d d' p p' a x.fault
+did_by : (o : Opening) (d d' : Desk) (p p' : BookState) (a : Act) (said : Answer) → IsPair o d p → (x : Does d d' p p' (doing (state_of d p) a) said) → Did o d d' p p' a x.fault
 unfolding act_of
-did_by o d d' p p' a said h x few = record {
+did_by o d d' p p' a said h x = record {
   journal = x.journal;
   state = x.state;
   agrees = x.agrees;
   room = let old = h.room in let fell = x.room in let spent = x.spare in omega (arith, old, fell, spent);
-  few = few;
-  cause = x.cause;
-  later = x.later;
+  cuts = x.cuts;
+  counted = x.counted;
 }
 
 answered_by : (d d' : Desk) (p p' : BookState) (a : Act) (said : Answer) → (x : Does d d' p p' (doing (state_of d p) a) said) → said ≡ (act_of (state_of d p) a x.fault).answer
@@ -109,7 +109,7 @@ answered_by d d' p p' a said x = x.answer
 
 pub did_step : (o : Opening) (d d' : Desk) (p p' : BookState) (number count : ℕ) (said : Answer) → IsPair o d p
     → (x : Does d d' p p' (λ fault. stepping (task_of number (state_of d p).tasks) number count fault (state_of d p)) said) → Did o d d' p p' (act.Step number count) x.fault
-did_step o d d' p p' number count said h x = did_by o d d' p p' (act.Step number count) said h x (steps (task_of number (state_of d p).tasks) number count x.fault (state_of d p)).cuts
+did_step o d d' p p' number count said h x = did_by o d d' p p' (act.Step number count) said h x
 
 pub acted_step : (o : Opening) (d d' : Desk) (p p' : BookState) (number count : ℕ) (said : Answer) → IsPair o d p
     → Does d d' p p' (λ fault. stepping (task_of number (state_of d p).tasks) number count fault (state_of d p)) said
@@ -121,16 +121,16 @@ acted_step o d d' p p' number count said h x =
 pub works_step : (d d' : Desk) (p p' : BookState) (number count : ℕ) (said : Answer) → Does d d' p p' (λ fault. stepping (task_of number (state_of d p).tasks) number count fault (state_of d p)) said
     → (state_of d p).arrivals ≡ map at_a p'.works
 works_step d d' p p' number count said x =
-    sym (ap (λ (s : State). s.arrivals) x.state ∙ arrivals_stay (state_of d p) (stepping (task_of number (state_of d p).tasks) number count x.fault (state_of d p)).turn.journal (steps (task_of number (state_of d p).tasks) number count x.fault (state_of d p)).works)
+    sym (ap (λ (s : State). s.arrivals) x.state ∙ arrivals_stay (state_of d p) (stepping (task_of number (state_of d p).tasks) number count x.fault (state_of d p)).turn.journal (steps (task_of number (state_of d p).tasks) number count x.fault (state_of d p)))
 
 pub works_next : (d d' : Desk) (p p' : BookState) (count : ℕ) (said : Answer) → Does d d' p p' (λ fault. stepping_next (next_step (state_of d p)) count fault (state_of d p)) said
     → (state_of d p).arrivals ≡ map at_a p'.works
 works_next d d' p p' count said x =
-    sym (ap (λ (s : State). s.arrivals) x.state ∙ arrivals_stay (state_of d p) (stepping_next (next_step (state_of d p)) count x.fault (state_of d p)).turn.journal (steps_next (next_step (state_of d p)) count x.fault (state_of d p)).works)
+    sym (ap (λ (s : State). s.arrivals) x.state ∙ arrivals_stay (state_of d p) (stepping_next (next_step (state_of d p)) count x.fault (state_of d p)).turn.journal (steps_next (next_step (state_of d p)) count x.fault (state_of d p)))
 
 pub did_next : (o : Opening) (d d' : Desk) (p p' : BookState) (count : ℕ) (said : Answer) → IsPair o d p
     → (x : Does d d' p p' (λ fault. stepping_next (next_step (state_of d p)) count fault (state_of d p)) said) → Did o d d' p p' (act.Next count) x.fault
-did_next o d d' p p' count said h x = did_by o d d' p p' (act.Next count) said h x (steps_next (next_step (state_of d p)) count x.fault (state_of d p)).cuts
+did_next o d d' p p' count said h x = did_by o d d' p p' (act.Next count) said h x
 
 pub acted_next : (o : Opening) (d d' : Desk) (p p' : BookState) (count : ℕ) (said : Answer) → IsPair o d p
     → Does d d' p p' (λ fault. stepping_next (next_step (state_of d p)) count fault (state_of d p)) said
@@ -149,6 +149,7 @@ acted_nothing o d p a said h e = record {
   opening = refl;
   cause = λ x. absurd (false≢true x);
   later = omega arith;
+  counted = omega arith;
 }
 
 delivers_nothing : (d : Desk) (p : BookState) (node : Node) → act_of (state_of d p) (act.Deliver node) None ≡ record { journal = []; answer = answer.Nothing }
@@ -179,13 +180,9 @@ acted_ask o d p node ask h =
 
 -- a command comes
 
-came_few : (fault : Option ℕ) (s : State) (c : Command) → medium_cuts (arriving A (work.Cmd c) s).turn.journal ≤ most_cuts fault
-came_few None s c = let none = comes s c in omega (arith, none)
-came_few (Some place) s c = let none = comes s c in omega (arith, none)
-
 pub did_come : (o : Opening) (d d' : Desk) (p p' : BookState) (node : Node) (c : Command) (said : Answer) → IsAtNode o node → IsPair o d p
     → (x : Does d d' p p' (λ fault. arriving A (work.Cmd c) (state_of d p)) said) → Did o d d' p p' (act.Arrive node (work.Cmd c)) x.fault
-did_come o d d' p p' A c said at h x = did_by o d d' p p' (act.Arrive A (work.Cmd c)) said h x (came_few x.fault (state_of d p) c)
+did_come o d d' p p' A c said at h x = did_by o d d' p p' (act.Arrive A (work.Cmd c)) said h x
 did_come o d d' p p' B c said at h x = absurd (at h.single.ha)
 
 pub acted_come : (o : Opening) (d d' : Desk) (p p' : BookState) (node : Node) (c : Command) (said : Answer) → IsAtNode o node → IsPair o d p

@@ -26,8 +26,8 @@ opened_replay o blocks faults single zeros =
     opened_state o.lun o.depth o.pool o.blocks blocks faults o.room zeros ∙ ap (λ (ha : Ha). opened (record o { ha = ha })) (sym single.ha)
 
 pub opened_pair : (o : Opening) (d : Desk) (p : BookState) (blocks : List (List ℕ)) (faults : ℕ) → IsSingle o → d ≡ opened_desk o.lun o.depth o.pool blocks faults → p ≡ empty_book o.room
-    → blocks ≡ replicate o.blocks (replicate 512 0) → length blocks ≤ MOST_BLOCKS → IsPair o d p
-opened_pair o d p blocks faults single desk book zeros few =
+    → blocks ≡ replicate o.blocks (replicate 512 0) → length blocks ≤ MOST_BLOCKS → faults ≡ 0 → IsPair o d p
+opened_pair o d p blocks faults single desk book zeros few none =
     let room = opened_room o.lun o.depth o.pool blocks faults o.room in
     subst (λ (e : Desk). IsPair o e p) (sym desk) (subst (IsPair o (opened_desk o.lun o.depth o.pool blocks faults)) (sym book) (record {
       single = single;
@@ -35,5 +35,5 @@ opened_pair o d p blocks faults single desk book zeros few =
       run = empty_run o;
       agrees = opened_agrees o.lun o.depth o.pool blocks faults o.room few;
       room = omega (arith, room);
-      cuts = omega arith;
+      cuts = sym none;
     }))

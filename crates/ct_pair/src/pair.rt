@@ -139,30 +139,34 @@ impl<B: Backend> Pair<B> {
         said_next(step, &self.book)
     }
 
-    /// The book of the unit. Its journal is a run.
+    /// The book of the unit. Its journal is a run, with a cut for each fault of the medium.
     pub fn book(&self) -> &Book
         ensures book { result.now ≡ self.now.book }
         ensures run { IsRun self.now.opening result.now.journal }
+        ensures cuts { medium_cuts result.now.journal ≡ self.now.desk.faults }
     {
         &self.book
     }
 
-    /// The journal is a run of the machine at any time, and no task management function is open.
+    /// The journal is a run of the machine at any time, with a cut for each fault of the medium, and no task management
+    /// function is open.
     pub fn journal_is_a_run(&self)
         ensures run { IsRun self.now.opening self.now.book.journal }
         ensures closed { (replay self.now.opening self.now.book.journal).functions ≡ [] }
+        ensures cuts { medium_cuts self.now.book.journal ≡ self.now.desk.faults }
     {
         let _ = &self.opening;
     }
 
-    /// The book and the medium: the journal is a run, and the blocks are those that it leads to.
+    /// The book and the medium: the journal is a run, with a cut for each fault of the medium, and the blocks are those
+    /// that it leads to.
     pub fn close(self) -> End<B>
         ensures lun { result.lun ≡ self.opening.lun }
         ensures book { result.book ≡ self.book }
         ensures run { IsRun self.opening self.book.journal }
         ensures blocks { B.blocks result.medium ≡ (replay self.opening self.book.journal).blocks }
         ensures faults { B.faults result.medium ≡ self.desk.faults }
-        ensures cuts { medium_cuts self.book.journal ≤ self.desk.faults }
+        ensures cuts { medium_cuts self.book.journal ≡ self.desk.faults }
     {
         let Pair { opening, lun, book } = self;
         End {

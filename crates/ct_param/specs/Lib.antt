@@ -1,3 +1,4 @@
 pub mod Faults
 pub mod ModeLists
+pub mod ResvLists
 pub mod UnmapLists

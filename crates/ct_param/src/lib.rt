@@ -4,9 +4,11 @@
 mod fault;
 mod laws;
 mod mode;
+mod resv;
 mod unmap;
 
 pub use fault::ListFault;
 pub use laws::apart;
 pub use mode::{ModeList, read_mode};
+pub use resv::{ResvList, read_resv};
 pub use unmap::{UnmapDescriptor, UnmapList, read_unmap};

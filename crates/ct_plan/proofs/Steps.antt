@@ -16,7 +16,8 @@ use Rattle.ct_plan.specs.declared.task.PieceEnd.TheVariants.{All as AllDone, Mis
 use Rattle.ct_plan.specs.Plans.{gets_among}
 use Rattle.ct_plan.specs.Cells.{Cells, Progress, after, after_all, difference_at, unless, performed, joined_where}
 use Rattle.ct_plan.specs.Tasks.{IsReady, IsInside, IsCovered, left, cells_of}
-use Rattle.ct_plan.specs.Pieces.{Makes, Performs, Uses, Advances, fault_of, fault_behind, tried, unfailed_end, end_of}
+use Rattle.ct_plan.specs.Pieces.{Makes, Performs, Uses, Advances, fault_of, fault_behind, faults_at, tried, unfailed_end}
+use Rattle.ct_plan.specs.Pieces.{end_of}
 use Rattle.ct_plan.specs.Pieces.{IsReadAmong, LastIsRead}
 use Rattle.ct_plan.proofs.Lists.{slice_get-drop, slice_get-take, slice_get-within, take-one_more, drop-at}
 use Rattle.ct_plan.proofs.Lists.{gets_among-cons}
@@ -283,3 +284,18 @@ pub last_is_still_read : (operations : List BlockOp) (moved : ℕ) (blocks buffe
 last_is_still_read operations zero blocks buffers read = read
 last_is_still_read operations (suc moved) blocks buffers read =
     rw (slice_get-take (suc moved) operations moved (omega arith)) read
+
+-- an operation that the medium failed counts, and nothing else does
+pub fault_counts : (moved : ℕ) (operation : BlockOp) → faults_at (fault_behind moved (Some (fault_of operation))) ≡ 1
+fault_counts moved (operations.Get lba) = refl
+fault_counts moved (operations.Look lba) = refl
+fault_counts moved (operations.Put lba place) = refl
+fault_counts moved (operations.Zero lba) = refl
+fault_counts moved (operations.Compare lba place) = refl
+
+pub unfailed_counts_none : (moved : ℕ) (task : Task) → faults_at (fault_behind moved (unfailed_end task)) ≡ 0
+unfailed_counts_none moved task = go (task.done == length task.plan.operations)
+  where
+    go : (is_end : Bool) → faults_at (fault_behind moved (if is_end then Some AllDone else None)) ≡ 0
+    go true = refl
+    go false = refl

@@ -38,6 +38,11 @@ fault_behind moved (Some end) = if is_fault end then Some moved else None
 abbrev pub fault_in : Piece → Option ℕ
 fault_in piece = fault_behind piece.moved piece.end
 
+-- how many calls of the medium fail in a piece with a fault at this place, if any
+abbrev pub faults_at : Option ℕ → ℕ
+faults_at None = 0
+faults_at (Some place) = 1
+
 -- the operations that are made of these, if no difference is found: none from the one on that the medium fails
 abbrev pub tried : List BlockOp → Option ℕ → List BlockOp
 tried operations None = operations

@@ -1,11 +1,11 @@
 ghost use Rattle.std.specs.Prelude.{◌≡◌, ◌+◌, ◌-◌, ◌*◌, ◌^◌, ◌<◌, ◌≤◌, [], ◌∷◌, ◌++◌, length, slice_set};
-ghost use Rattle.std.specs.Prelude.{slice_index_or, option_map, OnOk, OnErr, OnSome, IfOk, IfSome, IsNone, None};
+ghost use Rattle.std.specs.Prelude.{slice_index_or, option_map, OnOk, OnErr, IfOk, IfSome, IsNone, None};
 ghost use Rattle.ct_word.specs.Causes.{HasCause, no_end};
 ghost use Rattle.ct_pool.specs.Leases.{IsLeaseOf, blocks_of};
 ghost use Rattle.ct_plan.specs.Plans.{gets_among};
 ghost use Rattle.ct_plan.specs.Cells.{out_block, zero_block, first_difference, difference_at};
 ghost use Rattle.ct_plan.specs.Tasks.{IsReady, IsInside, IsCovered, IsTold, asked, cells_of};
-ghost use Rattle.ct_plan.specs.Pieces.{Advances, Uses, Makes, Performs, fault_of, fault_in, unfailed_end};
+ghost use Rattle.ct_plan.specs.Pieces.{Advances, Uses, Makes, Performs, fault_of, fault_in, faults_at, unfailed_end};
 ghost use Rattle.ct_plan.specs.Pieces.{IsRead, IsReadAmong, LastIsRead};
 
 use crate::operation::BlockOp;
@@ -134,7 +134,7 @@ fn perform<B: Backend>(
     }
 }
 
-// Makes the next operation of a task, by way of one of its leased blocks.
+// Makes the next operation of a task, by way of a leased block.
 fn make<B: Backend>(
     operation: BlockOp,
     t: &mut Task,
@@ -206,8 +206,7 @@ pub fn advance<B: Backend>(
         LastIsRead (asked t.old blocks) result.moved (B.blocks medium.new) (blocks_of pool.new t.old.lease) }
     ensures pool { Uses pool.old pool.new t.old.lease }
     ensures ready { IsReady (length out.now) (length (B.blocks medium.new)) pool.new t.new }
-    ensures cause { OnSome (fault_in result) (B.faults medium.old < B.faults medium.new) }
-    ensures later { B.faults medium.old ≤ B.faults medium.new }
+    ensures counted { B.faults medium.new ≡ B.faults medium.old + faults_at (fault_in result) }
 {
     let count = blocks.min(t.plan.length() - t.done);
     for moved in 0..count {

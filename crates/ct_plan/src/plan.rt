@@ -105,7 +105,7 @@ impl Plan {
         }
     }
 
-    /// Which of the leased blocks is the buffer of the operation behind the first `done` ones.
+    /// A leased block that is free for the operation behind the first `done` ones, as each of them is.
     pub(crate) fn buffer(&self, done: u32) -> u32
         requires { done < length self.now.operations }
         ensures { result < self.now.need }

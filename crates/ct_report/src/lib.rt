@@ -7,8 +7,6 @@ mod disk;
 mod journal;
 mod unit;
 
-pub use byte_print::push_byte_text;
-pub use disk::push_disk;
 pub use unit::push_unit;
 
 #[cfg(test)]

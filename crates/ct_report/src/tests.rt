@@ -2,7 +2,9 @@ ghost use Rattle.std.specs.Prelude.{◌≡◌, true, IsSome};
 ghost use Rattle.ct_book.specs.Journals.{reply_of};
 ghost use Rattle.ct_book.specs.Kept.{IsCommandNo, IsFunctionNo, IsWorkNo, IsReason, CanBePushed};
 
-use crate::{push_byte_text, push_disk, push_unit};
+use crate::byte_print::push_byte_text;
+use crate::disk::push_disk;
+use crate::push_unit;
 use ct_book::{Book, Cmd, Event, Kind2, Why, Work};
 use ct_cdb::{Attr2, CdbBytes};
 use ct_medium::{Backend, Ram};
@@ -139,9 +141,7 @@ fn answer(
 // What is printed of a logical unit with an empty disk.
 fn printed(alloc: Global, lun: u8, book: &Book) -> Result<Vec<u8>, Fail> {
     let disk = Ram::open(alloc, 2)?;
-    let mut text = Vec::new(alloc);
-    push_unit(&mut text, LunNo(lun), book, &disk)?;
-    Ok(text)
+    Ok(push_unit(Vec::new(alloc), LunNo(lun), book, &disk)?)
 }
 
 // Three commands, two of node A and one of B, with a reply each, and two functions.
@@ -327,8 +327,8 @@ fn tells_of_a_disk(rt: HostRuntime) -> Result<(), Fail> {
     let alloc = rt.alloc();
     let book = Book::open(alloc, ROOM)?;
     let disk = disk_of(alloc, b"\x00\x07\x07\x08\x00\x07\x00\x00\x01")?;
-    let mut text = Vec::from_slice(alloc, b"before\n")?;
-    push_unit(&mut text, LunNo(2), &book, &disk)?;
+    let before = Vec::from_slice(alloc, b"before\n")?;
+    let text = push_unit(before, LunNo(2), &book, &disk)?;
     let lines =
         "before\nlun 2\ndisk 1 2 07*512\ndisk 3 3 08*512\ndisk 5 5 07*512\ndisk 8 8 01*512\n";
     assert_eq!(rt; text.as_slice(), lines.as_bytes());

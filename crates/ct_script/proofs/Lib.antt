@@ -3,3 +3,5 @@ pub mod Texts
 pub mod HexPairs
 pub mod Judging
 pub mod Names
+pub mod Saying
+pub mod ByLines

@@ -5,3 +5,4 @@ pub mod Words
 pub mod Forms
 pub mod Rules
 pub mod Scripts
+pub mod Lines

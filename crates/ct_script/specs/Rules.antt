@@ -115,21 +115,8 @@ IsInRange _ = Unit {0}
 abbrev pub AreInRange : List Line → Type 0
 AreInRange lines = All (λ line. IsInRange line.word) lines
 
--- what holds of the lines of a script
-pub record IsWithin (lines : List Line) : Type 0 where
-  pub limits : is_over lines ≡ false
-  pub in_range : AreInRange lines
-
 -- the first so many lines set up, and the others act
 pub record SetUpFirst (lines : List Line) (settings : ℕ) : Type 0 where
   pub few : settings ≤ length lines
   pub quiet : list_any acts (take settings lines) ≡ false
   pub acting : list_all acts (drop settings lines) ≡ true
-
--- what lines add up to: those that set up, which come first; commands, bytes of DATA, block operations; no limit is passed
-pub record AddUp (lines : List Line) (settings commands bytes operations : ℕ) : Type 0 where
-  pub in_order : SetUpFirst lines settings
-  pub commands_are : commands ≡ count_by is_command lines
-  pub bytes_are : bytes ≡ sum_by data_bytes lines
-  pub operations_are : operations ≡ sum_by line_asked lines
-  pub within : IsWithin lines

@@ -1,8 +1,9 @@
 //! The forms of a script's lines: what the words of a line say.
 
-ghost use Rattle.std.specs.Prelude.{◌≡◌, ◌-◌, ◌^◌, IfOk, IfSome, option_map, take, bytes_eq};
+ghost use Rattle.std.specs.Prelude.{◌≡◌, ◌+◌, ◌-◌, ◌^◌, IfOk, IfSome, option_map, take, bytes_eq};
 ghost use Rattle.ct_script.specs.Rules.{IsInRange};
 ghost use Rattle.ct_script.specs.Reading.{kept};
+ghost use Rattle.ct_script.specs.ByteText.{bytes_of_text};
 ghost use Rattle.ct_script.specs.Words.{number_in};
 ghost use Rattle.ct_script.specs.Forms.{word_of, lun_of, port_of, map_of, step_of, drain_of, sync_of};
 ghost use Rattle.ct_script.specs.Forms.{cmd_of, command_of, cdb_bytes_of, data_of};
@@ -182,16 +183,22 @@ fn read_cdb(alloc: Global, text: &[u8]) -> Result<Option<CdbBytes>, NoMemory>
 }
 
 fn read_data(alloc: Global, mut words: Parts<'_>) -> Result<Option<Bytes>, NoMemory>
-    ensures { IfOk result (λ found. found ≡ option_map (take KEPT_DATA) (data_of words.entry)) }
+    ensures { IfOk result (λ found. found ≡ option_map (take (MOST_DATA_OUT + 1)) (data_of words.entry)) }
 {
     let Some(text) = words.next() else {
         return Ok(Some(Bytes::new(alloc)));
     };
     if words.is_empty() {
-        read_bytes(alloc, text, KEPT_DATA)
+        read_kept(alloc, text)
     } else {
         Ok(None)
     }
+}
+
+fn read_kept(alloc: Global, text: &[u8]) -> Result<Option<Bytes>, NoMemory>
+    ensures { IfOk result (λ found. found ≡ option_map (take (MOST_DATA_OUT + 1)) (bytes_of_text text.now)) }
+{
+    read_bytes(alloc, text, KEPT_DATA)
 }
 
 // `step 0 NO N`

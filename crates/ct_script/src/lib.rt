@@ -5,11 +5,13 @@ mod byte_text;
 mod cuts;
 mod digits;
 mod forms;
+mod laws;
 mod lines;
 mod numbers;
 mod parts;
 mod rules;
 mod script;
 
+pub use laws::scripts_are_read_line_by_line;
 pub use lines::parse;
 pub use script::{Line, ParseError, Script, ScriptFault, What, Word};

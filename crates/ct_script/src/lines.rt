@@ -2,6 +2,7 @@
 
 ghost use Rattle.std.specs.Prelude.{◌≡◌, ◌≤◌, ◌==◌, ◌++◌, ◌∷◌, [], false, length, if◌then◌else◌, IfOk, OnOk};
 ghost use Rattle.ct_script.specs.Rules.{IsInRange, is_misnamed, is_over, passes_limit};
+ghost use Rattle.ct_script.specs.Lines.{IsFaultless};
 ghost use Rattle.ct_script.specs.Scripts.{line_of, script_of, fault_at, Gives, GivesLine};
 
 use crate::forms::read_word;
@@ -90,7 +91,7 @@ impl Model for Draft {
 
     ghost Value = { List Line };
 
-    ghost use Rattle.ct_script.specs.Rules.{AddUp};
+    ghost use Rattle.ct_script.specs.Lines.{AddUp};
 
     ghost view = { λ d. d.lines.items };
 
@@ -132,6 +133,7 @@ impl Draft {
     fn push(&mut self, line: Line) -> Result<(), NoMemory>
         requires named { is_misnamed self.old line.word ≡ false }
         requires in_range { IsInRange line.word }
+        requires faultless { IsFaultless self.old line }
         requires fits { is_over (self.old ++ line ∷ []) ≡ false }
         ensures { OnOk result (self.new ≡ self.old ++ line ∷ []) }
     {

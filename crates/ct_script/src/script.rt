@@ -1,7 +1,7 @@
 //! A script, line by line.
 
 ghost use Rattle.std.specs.Prelude.{◌≡◌};
-ghost use Rattle.ct_script.specs.Rules.{IsWithin};
+ghost use Rattle.ct_script.specs.Lines.{IsWithin};
 
 use ct_cdb::{Attr2, CdbBytes};
 use ct_word::{Bytes, LunNo, Nexus, NoMemory, Node, Tag};
@@ -56,7 +56,7 @@ pub struct Line {
     pub word: Word,
 }
 
-/// A script in no fault, as contracts see it: its lines.
+/// A script, as contracts see it: its lines. Each is in no fault behind those before it, and its number is its place.
 #[derive(Debug, Drop)]
 pub struct Script {
     lines: Vec<Line>,
@@ -68,7 +68,7 @@ impl Model for Script {
 
     ghost Value = { List Line };
 
-    ghost use Rattle.ct_script.specs.Rules.{IsWithin};
+    ghost use Rattle.ct_script.specs.Lines.{IsWithin};
 
     ghost view = { λ s. s.lines.items };
 
@@ -83,7 +83,7 @@ impl Script {
         Script { lines }
     }
 
-    /// A script passes no limit, and its commands come from nexuses of the profile.
+    /// Each line is in no fault behind those before it.
     pub fn is_within(&self)
         ensures { IsWithin self.now }
     {

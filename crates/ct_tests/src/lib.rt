@@ -10,4 +10,6 @@ mod mode_lists;
 #[cfg(test)]
 mod operations;
 #[cfg(test)]
+mod reservations;
+#[cfg(test)]
 mod unmap_lists;

@@ -25,7 +25,7 @@ use Rattle.ct_script.specs.declared.script.Word.{Word}
 use Rattle.ct_script.specs.declared.script.Word.TheVariants.{Lun, Port, Map, Cmd, Step, Drain, Sync}
 use Rattle.ct_script.specs.Rules.{is_command}
 use Rattle.ct_top.specs.Commands.{command_in, commands_of, pieces_in, room_of, opening_of}
-use Rattle.ct_top.specs.Played.{Acted, next, Drains, idle, more, ByLine, ByLines, IsPlayed}
+use Rattle.ct_top.specs.Played.{Point, Acted, next, Drains, idle, more, ByLine, ByLines, IsPlayed}
 
 -- what acts bring, as the laws say it
 abbrev pub ActsBring : Type 0
@@ -51,22 +51,28 @@ came_then o first second third works others room left h k = record {
 }
 
 -- an act that brings nothing
-acted_none : ActsBring → (o : Opening) (may : Option ℕ → Type 0) (done : Act) (before after : List Logged) → ((s : State) → brought s done ≡ []) → Acted o may done before after → Came o before after [] (replay o before).room
-acted_none law o may done before after none h = subst (λ j. Came o before j [] (replay o before).room) (sym h.written) (
-    let b = law o before done h.fault in
-    let nothing = none (replay o before) in
-    record {
-      works = b.works ∙ ap (λ ws. works_of (replay o before) ++ ws) nothing;
-      room = b.room ∙ ap (λ ws. fold (room_without (length (replay o before).blocks)) (replay o before).room ws) nothing;
-      size = b.size;
-    })
+acted_none : ActsBring → (o : Opening) (done : Act) (before after : Point) → ((s : State) → brought s done ≡ []) → Acted o done before after → Came o before.journal after.journal [] (replay o before.journal).room
+acted_none law o done before after none h = subst (λ j. Came o before.journal j [] s.room) (sym h.written) (record {
+  works = b.works ∙ ap (λ ws. works_of s ++ ws) nothing;
+  room = b.room ∙ ap (λ ws. fold (room_without (length s.blocks)) s.room ws) nothing;
+  size = b.size;
+})
+  where
+    s : State
+    s = replay o before.journal
 
-drains_none : ActsBring → (o : Opening) (may : Option ℕ → Type 0) (before after : List Logged) → Drains o may before after → Came o before after [] (replay o before).room
-drains_none law o may before after (idle journal fault h e) = none_came o before
-drains_none law o may before after (more b between e h d) =
-    let first = acted_none law o may next b between (λ s. refl) h in
-    let rest = drains_none law o may between e d in
-    came_then o b between e [] [] (replay o b).room (replay o b).room first (subst (λ r. Came o between e [] r) first.room rest)
+    b : Brings s (replay o (before.journal ++ (act_of s done h.fault).journal)) done
+    b = law o before.journal done h.fault
+
+    nothing : brought s done ≡ []
+    nothing = none s
+
+drains_none : ActsBring → (o : Opening) (before after : Point) → Drains o before after → Came o before.journal after.journal [] (replay o before.journal).room
+drains_none law o before after (idle b e h) = subst (λ j. Came o b.journal j [] (replay o b.journal).room) (sym h.silent) (none_came o b.journal)
+drains_none law o before after (more b between e h d) =
+    let first = acted_none law o next b between (λ s. refl) h in
+    let rest = drains_none law o between e d in
+    came_then o b.journal between.journal e.journal [] [] (replay o b.journal).room (replay o b.journal).room first (subst (λ r. Came o between.journal e.journal [] r) first.room rest)
 
 abbrev one_if : Bool → ℕ
 one_if t = cond t 1 0
@@ -78,9 +84,9 @@ room_parts n line lines =
     ∙ ap (λ p. record { commands = one_if (is_command line) + count_by is_command lines; functions = 0; pieces = p }) (sum_by-cons (pieces_in n) line lines)
 
 -- a line that sends nothing takes no room
-line_none : ActsBring → (o : Opening) (may : Option ℕ → Type 0) (n : ℕ) (line : Line) (lines : List Line) (before after : List Logged) → one_if (is_command line) ≡ 0 → pieces_in n line ≡ 0 → (replay o before).room ≡ room_of n (line ∷ lines) →
+line_none : ActsBring → (o : Opening) (n : ℕ) (line : Line) (lines : List Line) (before after : List Logged) → one_if (is_command line) ≡ 0 → pieces_in n line ≡ 0 → (replay o before).room ≡ room_of n (line ∷ lines) →
     Came o before after [] (replay o before).room → Came o before after [] (room_of n lines)
-line_none law o may n line lines before after none free room h =
+line_none law o n line lines before after none free room h =
     let same : room_of n (line ∷ lines) ≡ room_of n lines =
     room_parts n line lines
     ∙ ap (λ c. record { commands = c + count_by is_command lines; functions = 0; pieces = pieces_in n line + sum_by (pieces_in n) lines }) none
@@ -90,17 +96,17 @@ line_none law o may n line lines before after none free room h =
     subst (λ r. Came o before after [] r) (room ∙ same) h
 
 -- a command for which there is room comes, and takes it
-command_comes : ActsBring → (o : Opening) (may : Option ℕ → Type 0) (n : ℕ) (command : Command) (others pieces : ℕ) (before after : List Logged) → length (replay o before).blocks ≡ n →
-    (replay o before).room ≡ record { commands = 1 + others; functions = 0; pieces = length (plan_in n command) + pieces } →
-    Acted o may (act.Arrive A (work.Cmd command)) before after → Came o before after (work.Cmd command ∷ []) (record { commands = others; functions = 0; pieces = pieces })
-command_comes law o may n command others pieces before after size room h = subst (λ j. Came o before j (work.Cmd command ∷ []) left) (sym h.written) (record {
+command_comes : ActsBring → (o : Opening) (n : ℕ) (command : Command) (others pieces : ℕ) (before after : Point) → length (replay o before.journal).blocks ≡ n →
+    (replay o before.journal).room ≡ record { commands = 1 + others; functions = 0; pieces = length (plan_in n command) + pieces } →
+    Acted o (act.Arrive A (work.Cmd command)) before after → Came o before.journal after.journal (work.Cmd command ∷ []) (record { commands = others; functions = 0; pieces = pieces })
+command_comes law o n command others pieces before after size room h = subst (λ j. Came o before.journal j (work.Cmd command ∷ []) left) (sym h.written) (record {
   works = b.works ∙ ap (λ ws. works_of s ++ ws) one;
   room = b.room ∙ ap (λ ws. fold (room_without (length s.blocks)) s.room ws) one ∙ ap (λ k. room_without k s.room (work.Cmd command)) size ∙ ap (λ r. room_without n r (work.Cmd command)) room ∙ taken;
   size = b.size;
 })
   where
     s : State
-    s = replay o before
+    s = replay o before.journal
 
     left : Room
     left = record { commands = others; functions = 0; pieces = pieces }
@@ -108,8 +114,8 @@ command_comes law o may n command others pieces before after size room h = subst
     full : Room
     full = record { commands = 1 + others; functions = 0; pieces = length (plan_in n command) + pieces }
 
-    b : Brings s (replay o (before ++ (act_of s (act.Arrive A (work.Cmd command)) h.fault).journal)) (act.Arrive A (work.Cmd command))
-    b = law o before (act.Arrive A (work.Cmd command)) h.fault
+    b : Brings s (replay o (before.journal ++ (act_of s (act.Arrive A (work.Cmd command)) h.fault).journal)) (act.Arrive A (work.Cmd command))
+    b = law o before.journal (act.Arrive A (work.Cmd command)) h.fault
 
     enough : (nat_lt 0 full.commands && nat_le (length (plan_in n command)) full.pieces) ≡ true
     enough =
@@ -130,24 +136,24 @@ command_comes law o may n command others pieces before after size room h = subst
         ap (λ c. record { commands = c; functions = 0; pieces = (length (plan_in n command) + pieces) - length (plan_in n command) }) (let e : (1 + others) - 1 ≡ others = omega arith in e)
         ∙ ap (λ p. record { commands = others; functions = 0; pieces = p }) (let e : (length (plan_in n command) + pieces) - length (plan_in n command) ≡ pieces = omega arith in e)
 
-line_comes : ActsBring → (o : Opening) (may : Option ℕ → Type 0) (n number : ℕ) (word : Word) (lines : List Line) (before after : List Logged) → length (replay o before).blocks ≡ n →
-    (replay o before).room ≡ room_of n (record { no = number; word = word } ∷ lines) → ByLine o may number word before after →
-    Came o before after (commands_of (record { no = number; word = word } ∷ [])) (room_of n lines)
-line_comes law o may n number (Cmd nexus x tag attr cdb out) lines before after size room h =
-    command_comes law o may n (record { line = number; nexus = nexus; visible = 1; tag = tag; attr = attr; cdb = cdb; out = out }) (count_by is_command lines) (sum_by (pieces_in n) lines) before after size
+line_comes : ActsBring → (o : Opening) (n number : ℕ) (word : Word) (lines : List Line) (before after : Point) → length (replay o before.journal).blocks ≡ n →
+    (replay o before.journal).room ≡ room_of n (record { no = number; word = word } ∷ lines) → ByLine o number word before after →
+    Came o before.journal after.journal (commands_of (record { no = number; word = word } ∷ [])) (room_of n lines)
+line_comes law o n number (Cmd nexus x tag attr cdb out) lines before after size room h =
+    command_comes law o n (record { line = number; nexus = nexus; visible = 1; tag = tag; attr = attr; cdb = cdb; out = out }) (count_by is_command lines) (sum_by (pieces_in n) lines) before after size
     (room ∙ room_parts n (record { no = number; word = Cmd nexus x tag attr cdb out }) lines) h
-line_comes law o may n number (Step lun asked blocks) lines before after size room h =
-    line_none law o may n (record { no = number; word = Step lun asked blocks }) lines before after refl refl room (acted_none law o may (act.Step asked blocks) before after (λ s. refl) h)
-line_comes law o may n number (Drain lun) lines before after size room h =
-    line_none law o may n (record { no = number; word = Drain lun }) lines before after refl refl room (drains_none law o may before after h)
-line_comes law o may n number Sync lines before after size room h =
-    line_none law o may n (record { no = number; word = Sync }) lines before after refl refl room (drains_none law o may before after h)
-line_comes law o may n number (Lun lun blocks) lines before after size room h =
-    line_none law o may n (record { no = number; word = Lun lun blocks }) lines before after refl refl room (subst (λ j. Came o before j [] (replay o before).room) (sym h) (none_came o before))
-line_comes law o may n number (Port port node) lines before after size room h =
-    line_none law o may n (record { no = number; word = Port port node }) lines before after refl refl room (subst (λ j. Came o before j [] (replay o before).room) (sym h) (none_came o before))
-line_comes law o may n number (Map nexus x lun) lines before after size room h =
-    line_none law o may n (record { no = number; word = Map nexus x lun }) lines before after refl refl room (subst (λ j. Came o before j [] (replay o before).room) (sym h) (none_came o before))
+line_comes law o n number (Step lun asked blocks) lines before after size room h =
+    line_none law o n (record { no = number; word = Step lun asked blocks }) lines before.journal after.journal refl refl room (acted_none law o (act.Step asked blocks) before after (λ s. refl) h)
+line_comes law o n number (Drain lun) lines before after size room h =
+    line_none law o n (record { no = number; word = Drain lun }) lines before.journal after.journal refl refl room (drains_none law o before after h)
+line_comes law o n number Sync lines before after size room h =
+    line_none law o n (record { no = number; word = Sync }) lines before.journal after.journal refl refl room (drains_none law o before after h)
+line_comes law o n number (Lun lun blocks) lines before after size room h =
+    line_none law o n (record { no = number; word = Lun lun blocks }) lines before.journal after.journal refl refl room (subst (λ (p : Point). Came o before.journal p.journal [] (replay o before.journal).room) (sym h) (none_came o before.journal))
+line_comes law o n number (Port port node) lines before after size room h =
+    line_none law o n (record { no = number; word = Port port node }) lines before.journal after.journal refl refl room (subst (λ (p : Point). Came o before.journal p.journal [] (replay o before.journal).room) (sym h) (none_came o before.journal))
+line_comes law o n number (Map nexus x lun) lines before after size room h =
+    line_none law o n (record { no = number; word = Map nexus x lun }) lines before.journal after.journal refl refl room (subst (λ (p : Point). Came o before.journal p.journal [] (replay o before.journal).room) (sym h) (none_came o before.journal))
 
 -- commands of lines are those of the first and of the others
 commands_parts : (line : Line) (lines : List Line) → commands_of (line ∷ lines) ≡ commands_of (line ∷ []) ++ commands_of lines
@@ -157,21 +163,23 @@ commands_parts line lines = go (command_in line.no line.word)
     go None = refl
     go (Some command) = refl
 
-lines_come : ActsBring → (o : Opening) (may : Option ℕ → Type 0) (n : ℕ) (lines : List Line) (before after : List Logged) → length (replay o before).blocks ≡ n → (replay o before).room ≡ room_of n lines → ByLines o may lines before after →
-    Came o before after (commands_of lines) (room_of n [])
-lines_come law o may n [] before after size room h = subst (λ j. Came o before j [] (room_of n [])) (sym h) (subst (λ r. Came o before before [] r) room (none_came o before))
-lines_come law o may n (line ∷ lines) before after size room h =
-    let first = line_comes law o may n line.no line.word lines before h.0 size room h.1 in
-    let rest = lines_come law o may n lines h.0 after (first.size ∙ size) first.room h.2 in
-    subst (λ ws. Came o before after ws (room_of n [])) (sym (commands_parts line lines)) (came_then o before h.0 after (commands_of (line ∷ [])) (commands_of lines) (room_of n lines) (room_of n []) first rest)
+lines_come : ActsBring → (o : Opening) (n : ℕ) (lines : List Line) (before after : Point) → length (replay o before.journal).blocks ≡ n → (replay o before.journal).room ≡ room_of n lines → ByLines o lines before after →
+    Came o before.journal after.journal (commands_of lines) (room_of n [])
+lines_come law o n [] before after size room h =
+    subst (λ (p : Point). Came o before.journal p.journal [] (room_of n [])) (sym h) (subst (λ r. Came o before.journal before.journal [] r) room (none_came o before.journal))
+lines_come law o n (line ∷ lines) before after size room h =
+    let first = line_comes law o n line.no line.word lines before h.0 size room h.1 in
+    let rest = lines_come law o n lines h.0 after (first.size ∙ size) first.room h.2 in
+    subst (λ ws. Came o before.journal after.journal ws (room_of n [])) (sym (commands_parts line lines))
+    (came_then o before.journal h.0.journal after.journal (commands_of (line ∷ [])) (commands_of lines) (room_of n lines) (room_of n []) first rest)
 
 opened_is : (o : Opening) → replay o [] ≡ opened o
 unfolding replay
 opened_is o = refl
 
-pub all_come : ActsBring → WorksKept → (may : Option ℕ → Type 0) (n : ℕ) (lines : List Line) (journal : List Logged) → IsPlayed (opening_of n lines) may lines journal → IsRun (opening_of n lines) journal → works_in journal ≡ commands_of lines
-all_come law kept may n lines journal h run =
-    sym (kept o journal run) ∙ drained.works ∙ append-nil (works_of (replay o h.last)) ∙ came.works ∙ ap (λ ws. ws ++ commands_of lines) (ap works_of (opened_is o))
+pub all_come : ActsBring → WorksKept → (n : ℕ) (lines : List Line) (end : Point) → IsPlayed (opening_of n lines) lines end → IsRun (opening_of n lines) end.journal → works_in end.journal ≡ commands_of lines
+all_come law kept n lines end h run =
+    sym (kept o end.journal run) ∙ drained.works ∙ append-nil (works_of (replay o h.last.journal)) ∙ came.works ∙ ap (λ ws. ws ++ commands_of lines) (ap works_of (opened_is o))
   where
     o : Opening
     o = opening_of n lines
@@ -179,8 +187,8 @@ all_come law kept may n lines journal h run =
     size : length (replay o []).blocks ≡ n
     size = ap (λ (s : State). length s.blocks) (opened_is o) ∙ length-replicate n (replicate 512 0)
 
-    came : Came o [] h.last (commands_of lines) (room_of n [])
-    came = lines_come law o may n lines [] h.last size (ap (λ (s : State). s.room) (opened_is o)) h.lines_done
+    came : Came o [] h.last.journal (commands_of lines) (room_of n [])
+    came = lines_come law o n lines (record { journal = []; faults = h.from }) h.last size (ap (λ (s : State). s.room) (opened_is o)) h.lines_done
 
-    drained : Came o h.last journal [] (replay o h.last).room
-    drained = drains_none law o may h.last journal h.drained
+    drained : Came o h.last.journal end.journal [] (replay o h.last.journal).room
+    drained = drains_none law o h.last end h.drained

@@ -20,7 +20,8 @@ use Rattle.ct_exec.specs.Executions.{plan_in}
 use Rattle.ct_script.specs.declared.script.Line.{Line}
 use Rattle.ct_script.specs.declared.script.Word.{Word}
 use Rattle.ct_script.specs.declared.script.Word.TheVariants.{Lun, Port, Map, Cmd, Step, Drain, Sync}
-use Rattle.ct_script.specs.Rules.{IsInRange, AreInRange, IsWithin, is_command, line_asked, word_line_asked, cdb_asked}
+use Rattle.ct_script.specs.Lines.{IsWithin}
+use Rattle.ct_script.specs.Rules.{IsInRange, AreInRange, is_command, line_asked, word_line_asked, cdb_asked}
 use Rattle.ct_script.specs.Rules.{data_bytes}
 use Rattle.ct_top.specs.Commands.{command_in, pieces_by, pieces_in, room_of, declared_blocks}
 

@@ -30,16 +30,12 @@ pub record WasRead (old new : Option (List ℕ)) (says : Result (List Line) Scri
   pub within : length bytes ≤ MOST_SCRIPT
   pub meaning : script_of bytes ≡ says
 
--- no operation fails on a disk in memory
-abbrev pub NoFault : Option ℕ → Type 0
-NoFault fault = fault ≡ None
-
 -- a unit with so many blocks was played: its journal is what the machine writes for the acts of the lines, a run, lawful and
--- legal, to which each command of the lines came in order, with nothing live at its end; its disk has the blocks to which the
+-- legal, to which each command of the lines came in order, with nothing live at its end; no operation of its disk failed; its disk has the blocks to which the
 -- journal leads, and these are the blocks behind its commands executed one at a time, in the order in which they ended
 pub record IsEnd (blocks : ℕ) (lines : List Line) (end : UnitEnd) : Type 0 where
   pub lun : end.lun ≡ record { 0 = 0 }
-  pub played : IsPlayed (opening_of blocks lines) NoFault lines end.book.journal
+  pub played : IsPlayed (opening_of blocks lines) lines (record { journal = end.book.journal; faults = 0 })
   pub run : IsRun (opening_of blocks lines) end.book.journal
   pub lawful : IsLawful (opening_of blocks lines) end.book.journal
   pub legal : IsLegal (opening_of blocks lines) end.book.journal

@@ -2,6 +2,8 @@
 #![tactic(auto)]
 
 mod command;
+#[cfg(test)]
+mod end_tests;
 mod played;
 mod report;
 mod served;

@@ -4,9 +4,11 @@ ghost use Rattle.std.specs.Prelude.{◌≡◌, ◌≤◌, ◌<◌, [], length, r
 ghost use Rattle.ct_plan.specs.Plans.{plan_of};
 ghost use Rattle.ct_book.specs.Journals.{works_in};
 ghost use Rattle.ct_machine.specs.Runs.{replay, IsRun};
-ghost use Rattle.ct_script.specs.Rules.{IsWithin, IsInRange, line_asked};
+ghost use Rattle.ct_pair.specs.Pairs.{medium_cuts};
+ghost use Rattle.ct_script.specs.Rules.{IsInRange, line_asked};
+ghost use Rattle.ct_script.specs.Lines.{IsWithin};
 ghost use Rattle.ct_top.specs.Commands.{commands_of, pieces_in, room_of, opening_of};
-ghost use Rattle.ct_top.specs.Played.{MayFail, Drains, ByLine, ByLines, IsPlayed};
+ghost use Rattle.ct_top.specs.Played.{point_of, Drains, ByLine, ByLines, IsPlayed};
 
 use ct_book::{Cmd, Work};
 use ct_cdb::Profile;
@@ -25,14 +27,16 @@ use std::alloc::Global;
 const VISIBLE: u16 = 1;
 
 /// Plays a script on the logical unit that it declares, over a medium of that many blocks. The error is that memory ran
-/// out, which can be before an act alone.
+/// out, which can be before an act alone. An act fails only where an
+/// operation of the medium failed meanwhile.
 pub fn play_on<B: Backend>(alloc: Global, script: Script, medium: B) -> Result<End<B>, NoMemory>
     requires some { 1 ≤ length (B.blocks medium) }
     requires few { length (B.blocks medium) ≤ MOST_BLOCKS }
     requires zeros { B.blocks medium ≡ replicate (length (B.blocks medium)) (replicate 512 0) }
     requires unfailed { B.faults medium ≡ 0 }
     ensures lun { IfOk result (λ end. end.lun ≡ record { 0 = 0 }) }
-    ensures played { IfOk result (λ end. IsPlayed (opening_of (length (B.blocks medium)) script) (MayFail 0 (B.faults end.medium)) script end.book.journal) }
+    ensures played { IfOk result (λ end. IsPlayed (opening_of (length (B.blocks medium)) script) script (record { journal = end.book.journal; faults = B.faults end.medium })) }
+    ensures cuts { IfOk result (λ end. medium_cuts end.book.journal ≤ B.faults end.medium) }
     ensures run { IfOk result (λ end. IsRun (opening_of (length (B.blocks medium)) script) end.book.journal) }
     ensures arrived { IfOk result (λ end. works_in end.book.journal ≡ commands_of script) }
     ensures disk { IfOk result (λ end. B.blocks end.medium ≡ (replay (opening_of (length (B.blocks medium)) script) end.book.journal).blocks) }
@@ -100,8 +104,7 @@ fn play_lines<B: Backend>(
 ) -> Result<(), NoMemory>
     requires { IsWithin lines.items }
     ensures opening { pair.new.opening ≡ pair.old.opening }
-    ensures later { pair.old.desk.faults ≤ pair.new.desk.faults }
-    ensures done { OnOk result (ByLines pair.old.opening (MayFail pair.old.desk.faults pair.new.desk.faults) lines.items pair.old.book.journal pair.new.book.journal) }
+    ensures done { OnOk result (ByLines pair.old.opening lines.items (point_of pair.old) (point_of pair.new)) }
 {
     for line in lines {
         play_line(alloc, pair, line)?;
@@ -112,8 +115,7 @@ fn play_lines<B: Backend>(
 fn play_line<B: Backend>(alloc: Global, pair: &mut Pair<B>, line: Line) -> Result<(), NoMemory>
     requires { IsInRange line.word }
     ensures opening { pair.new.opening ≡ pair.old.opening }
-    ensures later { pair.old.desk.faults ≤ pair.new.desk.faults }
-    ensures done { OnOk result (ByLine pair.old.opening (MayFail pair.old.desk.faults pair.new.desk.faults) line.no line.word pair.old.book.journal pair.new.book.journal) }
+    ensures done { OnOk result (ByLine pair.old.opening line.no line.word (point_of pair.old) (point_of pair.new)) }
 {
     let Line { no, word } = line;
     match word {
@@ -140,8 +142,7 @@ fn play_line<B: Backend>(alloc: Global, pair: &mut Pair<B>, line: Line) -> Resul
 // All that can be done is done.
 fn drain<B: Backend>(pair: &mut Pair<B>)
     ensures opening { pair.new.opening ≡ pair.old.opening }
-    ensures later { pair.old.desk.faults ≤ pair.new.desk.faults }
-    ensures drained { Drains pair.old.opening (MayFail pair.old.desk.faults pair.new.desk.faults) pair.old.book.journal pair.new.book.journal }
+    ensures drained { Drains pair.old.opening (point_of pair.old) (point_of pair.new) }
 {
     loop {
         pair.journal_is_a_run();

@@ -24,7 +24,7 @@ pub fn text(alloc: Global, ends: &[UnitEnd]) -> Result<Vec<u8>, NoMemory>
 {
     let mut text = Vec::from_slice(alloc, b"report 1\n")?;
     for end in ends {
-        push_unit(&mut text, end.lun, &end.book, &end.disk)?;
+        text = push_unit(text, end.lun, &end.book, &end.disk)?;
     }
     text.extend_from_slice(b"done\n")?;
     Ok(text)

@@ -12,11 +12,12 @@ struct Streams<'a> {
     sink_fails: &'a [u64],
 }
 
-/// How a call ended, and how much it sent.
+/// How a call ended, how much it sent, and of how many units it left an end.
 #[derive(Clone, Copy, Debug, PartialEq, Eq)]
 struct Outcome {
     exit: Exit,
     sent: u64,
+    units: usize,
 }
 
 const AT_ONCE: usize = 1 << 30;
@@ -64,6 +65,7 @@ fn serve(
     let outcome = Outcome {
         exit: served.exit,
         sent: served.sent,
+        units: served.ends.len(),
     };
     Ok((outcome, held))
 }
@@ -82,6 +84,7 @@ fn done(sent: usize) -> Outcome {
     Outcome {
         exit: Exit::Done,
         sent: sent as u64,
+        units: 1,
     }
 }
 
@@ -108,7 +111,8 @@ fn refuses_other_words(rt: HostRuntime) -> Result<(), Fail> {
             served,
             Outcome {
                 exit: Exit::Usage,
-                sent: 0
+                sent: 0,
+                units: 0
             },
             "at {texts:?}"
         );
@@ -318,7 +322,8 @@ fn tells_each_read_fault(rt: HostRuntime) -> Result<(), Fail> {
                     served,
                     Outcome {
                         exit: Exit::Read,
-                        sent: 0
+                        sent: 0,
+                        units: 0
                     },
                     "at call {call}"
                 );
@@ -350,7 +355,8 @@ fn tells_each_write_fault(rt: HostRuntime) -> Result<(), Fail> {
                     served,
                     Outcome {
                         exit: Exit::Write,
-                        sent: sent as u64
+                        sent: sent as u64,
+                        units: 1
                     },
                     "at call {call}"
                 );

@@ -1,5 +1,5 @@
 -- What is taken of one nexus and raised for another.
-use Rattle.std.proofs.Common.{◌≡◌, ◌≢◌, ◌<◌, ◌+◌, ◌*◌, ◌&&◌, ◌==◌, ℕ, zero, suc, List, [], ◌∷◌, length, map, replicate, slice_set, slice_index_or, Bool, true, false, Option, None, Some, refl, sym, ap, ◌∙◌, arith, get_or-set_other, get_or-set_same}
+use Rattle.std.proofs.Common.{◌≡◌, ◌≢◌, ◌<◌, ℕ, zero, suc, List, [], ◌∷◌, length, map, slice_set, slice_index_or, Bool, true, false, Option, None, Some, refl, sym, ap, ◌∙◌, arith, get_or-set_other, get_or-set_same}
 use Rattle.std.proofs.lemmas.List.{set-get_or, set_comm, get_or-map, length-map, length-set}
 use Rattle.std.proofs.lemmas.Bool.Decides.{nat_tests}
 use Rattle.ct_word.specs.Nexuses.{IsNexus, place_of, is_same_nexus}
@@ -7,8 +7,8 @@ use Rattle.ct_word.specs.declared.names.Nexus.{Nexus}
 use Rattle.ct_word.specs.declared.names.Code.{Code}
 use Rattle.ct_ua.specs.declared.code_set.CodeSet.{CodeSet}
 use Rattle.ct_ua.specs.CodeSets.{no_codes, has_code, with_code, without_code, first_of}
-use Rattle.ct_ua.specs.Attentions.{codes_of, with_codes, first_code, without_first, after_take, after_raise, after_raise_for_all, after_raise_for_others, after_clear}
-use Rattle.ct_ua.proofs.Codes.{has-put, put-same, none_is, first_alone}
+use Rattle.ct_ua.specs.Attentions.{codes_of, with_codes, first_code, without_first, after_take, after_raise, after_raise_for_all, after_raise_for_others, after_raise_for, after_clear}
+use Rattle.ct_ua.proofs.Codes.{put-same, none_is, first_alone}
 
 -- different nexuses have different places
 pub places_differ : (a b : Nexus) → IsNexus a → IsNexus b → is_same_nexus a b ≡ false → place_of a ≢ place_of b
@@ -129,6 +129,12 @@ length-raise_for_all attentions code = length-map _ _
 pub length-raise_for_others : (attentions : List CodeSet) (a : Nexus) (code : Code) → length (after_raise_for_others attentions a code) ≡ length attentions
 unfolding after_raise_for_all after_raise_for_others
 length-raise_for_others attentions a code = length-set _ _ _ ∙ length-map _ _
+
+pub length-raise_for : (attentions : List CodeSet) (set : List Bool) (code : Code) → length (after_raise_for attentions set code) ≡ length attentions
+unfolding after_raise_for
+length-raise_for attentions [] code = refl
+length-raise_for [] (is_in ∷ set) code = refl
+length-raise_for (codes ∷ attentions) (is_in ∷ set) code = ap suc (length-raise_for attentions set code)
 
 pub length-clear : (attentions : List CodeSet) (a : Nexus) → length (after_clear attentions a) ≡ length attentions
 unfolding after_clear

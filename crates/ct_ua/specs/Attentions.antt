@@ -1,6 +1,6 @@
 -- Unit attention conditions of all I_T nexuses (SAM-5, 5.14): a list of 256 sets of codes, that of a nexus at its
 -- place. Where a nexus has no place among them, it has no condition, and none is raised for it.
-use Rattle.std.specs.Prelude.{List, map, replicate, slice_index_or, slice_set, Option, None, Some}
+use Rattle.std.specs.Prelude.{List, [], ◌∷◌, Bool, true, false, map, replicate, slice_index_or, slice_set, Option, None, Some}
 use Rattle.ct_word.specs.Nexuses.{place_of}
 use Rattle.ct_word.specs.declared.names.Nexus.{Nexus}
 use Rattle.ct_word.specs.declared.names.Code.{Code}
@@ -49,6 +49,16 @@ after_raise_for_all attentions code = map (λ codes. with_code codes code) atten
 unfoldable pub after_raise_for_others : List CodeSet → Nexus → Code → List CodeSet
 after_raise_for_others attentions nexus code =
     with_codes (after_raise_for_all attentions code) nexus (codes_of attentions nexus)
+
+-- a code is raised for each nexus of a set
+abbrev pub raised_if : Bool → CodeSet → Code → CodeSet
+raised_if true codes code = with_code codes code
+raised_if false codes code = codes
+
+unfoldable pub after_raise_for : List CodeSet → List Bool → Code → List CodeSet
+after_raise_for attentions [] code = attentions
+after_raise_for [] (is_in ∷ set) code = []
+after_raise_for (codes ∷ attentions) (is_in ∷ set) code = raised_if is_in codes code ∷ after_raise_for attentions set code
 
 -- all codes of a nexus are dropped
 unfoldable pub after_clear : List CodeSet → Nexus → List CodeSet

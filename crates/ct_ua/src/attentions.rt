@@ -2,10 +2,10 @@ ghost use Rattle.std.specs.Prelude.{◌≡◌, length};
 ghost use Rattle.ct_word.specs.Nexuses.{place_of};
 ghost use Rattle.ct_ua.specs.Attentions.{no_attentions, power_on_attentions, codes_of, with_codes, first_code};
 ghost use Rattle.ct_ua.specs.Attentions.{after_take, after_raise, after_raise_for_all, after_raise_for_others};
-ghost use Rattle.ct_ua.specs.Attentions.{after_clear};
+ghost use Rattle.ct_ua.specs.Attentions.{after_raise_for, after_clear};
 
 use crate::code_set::CodeSet;
-use ct_word::{Code, Nexus};
+use ct_word::{Code, Nexus, NexusSet};
 use std::marker::Model;
 
 /// I_T nexuses that there are.
@@ -100,6 +100,18 @@ impl Attentions {
         let own = self.codes(n);
         self.raise_for_all(c);
         self.put(n, own);
+    }
+
+    /// Raises a code for each nexus of a set.
+    #[tactic(auto, unfolding(crate::specs::Attentions::after_raise_for))]
+    pub fn raise_for(&mut self, set: &NexusSet, c: Code)
+        ensures { self.new ≡ after_raise_for self.old set.now c }
+    {
+        for place in 0..NEXUSES {
+            if set.has_place(place) {
+                self.sets[place] = self.sets[place].with(c);
+            }
+        }
     }
 
     /// Drops all codes of a nexus.

@@ -1,7 +1,7 @@
 //! Every code in the order of the table, and nexuses apart.
 
 use crate::*;
-use ct_word::{Code, Nexus};
+use ct_word::{Code, Nexus, NexusSet};
 
 // In the order in which a nexus is told, with the additional sense code and its qualifier.
 fn table() -> [(Code, u8, u8); 9] {
@@ -58,4 +58,16 @@ fn keeps_nexuses_apart(rt: HostRuntime) {
     first_of_several();
     taken_apart();
     raised_once();
+}
+
+#[test]
+fn raises_for_a_set(rt: HostRuntime) {
+    let mut attentions = Attentions::open();
+    let (one, other) = (Nexus { port: 0, init: 1 }, Nexus { port: 15, init: 15 });
+    let mut set = NexusSet::open();
+    set.add(other);
+    attentions.raise_for(&set, Code::RegistrationsPreempted);
+    attentions.raise_for(&NexusSet::open(), Code::Reset);
+    assert_eq!(rt; attentions.first(one), None);
+    assert_eq!(rt; attentions.first(other), Some(Code::RegistrationsPreempted));
 }

@@ -84,8 +84,8 @@ pub struct Room {
     pub pieces: u32,
 }
 
-/// A unit attention condition (SAM-5, 5.14), by its additional sense code and qualifier. The variants stand in the order in
-/// which a nexus is told of several.
+/// A unit attention condition (SAM-5, 5.14), by its additional sense code and qualifier. The variants stand in the order
+/// in which a nexus is told of several.
 #[derive(Clone, Copy, Debug, PartialEq, Eq)]
 pub enum Code {
     /// 29/00: power on, reset or bus device reset

@@ -1,4 +1,4 @@
-ghost use Rattle.std.specs.Prelude.{◌≡◌, ◌+◌, ◌*◌};
+ghost use Rattle.std.specs.Prelude.{◌≡◌, ◌+◌, ◌*◌, slice_index_or, false};
 ghost use Rattle.ct_word.specs.Nexuses.{IsNexus, no_nexuses, place_of, contains, with_nexus};
 
 use crate::names::Nexus;
@@ -38,16 +38,28 @@ impl NexusSet {
         self.flags[place_of(n)]
     }
 
+    /// Whether the nexus at a place is in the set. From place 256 on there is none.
+    pub fn has_place(&self, place: usize) -> bool
+        ensures { result ≡ slice_index_or self.now place false }
+    {
+        match self.flags.get(place) {
+            Some(is_in) => *is_in,
+            None => false,
+        }
+    }
+
+    /// Where a nexus has no place among the 256, nothing changes.
     pub fn add(&mut self, n: Nexus)
-        requires { IsNexus n }
         ensures { self.new ≡ with_nexus self.old n }
     {
-        self.flags[place_of(n)] = true;
+        let place = place_of(n);
+        if place < self.flags.len() {
+            self.flags[place] = true;
+        }
     }
 }
 
 fn place_of(n: Nexus) -> usize
-    requires { IsNexus n }
     ensures { result ≡ place_of n }
 {
     usize::from(n.port) * 16 + usize::from(n.init)

@@ -28,8 +28,12 @@ use Rattle.ct_exec.specs.Controls.{is_unrestricted, has_descriptors, tells_abort
 use Rattle.ct_param.specs.ModeLists.{mode_list_of}
 use Rattle.ct_pages.specs.Selects.{selected_pages}
 use Rattle.ct_pages.specs.Senses.{whole_mode_data, mode_data}
-use Rattle.ct_ua.specs.Attentions.{power_on_attentions, first_code, after_take}
-use Rattle.ct_exec.specs.Changes.{changed_control}
+use Rattle.ct_param.specs.ResvLists.{resv_list_of}
+use Rattle.ct_resv.specs.Access.{is_allowed}
+use Rattle.ct_resv.specs.Actions.{after_out}
+use Rattle.ct_ua.specs.Attentions.{power_on_attentions, first_code, after_take, after_raise_for, after_raise_for_all}
+use Rattle.ct_ua.specs.Attentions.{after_raise_for_others}
+use Rattle.ct_exec.specs.Changes.{changed_control, cleared_by}
 use Rattle.ct_exec.specs.Data.{data_of_unit}
 use Rattle.ct_exec.specs.Executions.{refusal_of, refused_control, execute, plan_in, need_in}
 use Rattle.ct_machine.specs.declared.act.Act.TheVariants as act
@@ -44,7 +48,8 @@ use Rattle.ct_machine.specs.Serial.{serial_disk}
 -- all that a run computes with
 unfoldable pub machine : Unit {0}
 unfolding no_nexuses row_of profile_in hits seeks plan_of need_of overlap footprint_of conflicts skips blocker_of next_ready_of
-    mode_list_of selected_pages whole_mode_data mode_data power_on_attentions first_code after_take is_unrestricted has_descriptors tells_aborts closing_control data_of_unit
+    mode_list_of selected_pages whole_mode_data mode_data power_on_attentions first_code after_take after_raise_for
+    after_raise_for_all after_raise_for_others resv_list_of is_allowed after_out cleared_by is_unrestricted has_descriptors tells_aborts closing_control data_of_unit
     changed_control refusal_of refused_control execute
     plan_in need_in after turned_cause act_of replay journal_of serial_disk
 machine = tt
@@ -57,7 +62,7 @@ unit_of ha blocks = record {
   blocks = blocks;
   depth = 64;
   pool = 1024;
-  room = record { commands = 8; functions = 4; pieces = 64 };
+  room = record { commands = 12; functions = 4; pieces = 64 };
 }
 
 -- node A has port 0, node B has port 1
@@ -106,6 +111,12 @@ read line node init tag lba count = comes node (command line node init tag Simpl
 abbrev pub no_read : ℕ → Node → ℕ → ℕ → Move
 no_read line node init tag = read line node init tag 0 0
 
+-- PERSISTENT RESERVE OUT at node A: an action with a type, the key of the nexus and the service key, of one byte each
+abbrev pub reserve : ℕ → ℕ → ℕ → ℕ → ℕ → ℕ → ℕ → Move
+reserve line init tag action kind key service =
+    comes A (command line A init tag Simple (0x5f ∷ action ∷ kind ∷ 0 ∷ 0 ∷ 0 ∷ 0 ∷ 0 ∷ 24 ∷ 0 ∷ [])
+    (replicate 7 0 ++ key ∷ replicate 7 0 ++ service ∷ replicate 8 0))
+
 abbrev pub asks : ℕ → Node → ℕ → Function → Move
 asks line node init asked = comes node (function line node init asked)
 
@@ -121,6 +132,20 @@ deliver node = record { act = act.Deliver node; fault = None }
 
 abbrev pub next : Move
 next = record { act = act.Next 65536; fault = None }
+
+-- two initiators register, and the first reserves for registrants; it can preempt the other then, and abort
+abbrev pub preempted : List Move → List Move
+preempted moves =
+    reserve 8 0 2 0 0 0 1 ∷ reserve 9 0 3 1 5 1 0 ∷ reserve 10 1 1 0 0 0 2 ∷ next ∷ next ∷ next ∷ moves
+
+abbrev pub aborts : ℕ → Move
+aborts line = reserve line 0 5 5 5 1 2
+
+-- initiator 0 sets TAS
+abbrev pub sets_tas : ℕ → Move
+sets_tas line =
+    comes A (command line A 0 4 Simple (0x15 ∷ 0x10 ∷ 0 ∷ 0 ∷ 16 ∷ 0 ∷ [])
+    (replicate 4 0 ++ 0x0a ∷ 0x0a ∷ 0 ∷ 0 ∷ 0 ∷ 0x40 ∷ replicate 6 0))
 
 -- TEST UNIT READY of initiator 0 at node A, and of initiator 1, who is at node B where there are two
 abbrev pub is_ready : ℕ → Node → ℕ → Move

@@ -1,4 +1,4 @@
-use Rattle.std.proofs.Common.{◌≡◌, ℕ, ◌+◌, ◌-◌, List, ◌++◌, length, take, drop, ap, sym, ◌∙◌, subst, rules, arith}
+use Rattle.std.proofs.Common.{◌≡◌, ℕ, ◌+◌, ◌-◌, List, ◌++◌, length, take, drop, ap, sym, ◌∙◌, subst, rules}
 use Rattle.std.proofs.Math.Seq.{take-add}
 use Rattle.std.proofs.lemmas.List.{take_rest}
 use Rattle.std.specs.Io.KnownBytes.{Appends}
@@ -13,5 +13,5 @@ pub loop-sent-preserved : goal.loop-sent-preserved
 loop-sent-preserved g c = record {
   within = search rules;
   appended = subst (Appends _ _) (sent_more c.loop-sent.sent c.in-Ok.count c.args.bytes.now) (Appends-trans _ _ _ _ _ c.loop-sent.invariant.appended c.in-Ok.ensures.bytes);
-  later = omega (arith, c.in-Ok.ensures.cause.later);
+  unfailed = c.in-Ok.ensures.cause.kept ∙ c.loop-sent.invariant.unfailed;
 }

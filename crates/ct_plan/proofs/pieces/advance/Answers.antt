@@ -10,6 +10,7 @@ use Rattle.ct_plan.specs.Pieces.{Uses, IsReadAmong, LastIsRead}
 use Rattle.ct_plan.proofs.Lists.{drop-at, gets_among-cons, slice_get-take}
 use Rattle.ct_plan.proofs.Steps.{next_of_left, makes_one_more, uses_both, ready_behind, still_even, advances_whole}
 use Rattle.ct_plan.proofs.Steps.{advances_fault, advances_differs, last_is_read, last_is_still_read}
+use Rattle.ct_plan.proofs.Steps.{fault_counts, unfailed_counts_none}
 use Rattle.ct_pool.specs.Leases.{LeaseState, blocks_of}
 use Rattle.ct_plan.proofs.pieces.advance.Goals as goal
 
@@ -73,6 +74,25 @@ returns-in-Ok-Some-clause-ready g c =
     (blocks c.make.new.medium) c.loop-moved.pool c.make.new.pool c.next-operation.result known.ready
     c.in-Ok-Some.ensures.made c.make.ensures.pool c.next-operation.ensures.value
 
+pub returns-in-Ok-Some-clause-counted : goal.returns-in-Ok-Some-clause-counted
+returns-in-Ok-Some-clause-counted g c =
+    omega (arith, c.in-Ok-Some.ensures.cause.kept, c.loop-moved.invariant.unfailed)
+
+pub returns-in-Err-clause-counted : goal.returns-in-Err-clause-counted
+returns-in-Err-clause-counted g c =
+    rw c.fault.ensures
+    (omega (
+      arith,
+      c.in-Err.ensures.cause.failed,
+      c.loop-moved.invariant.unfailed,
+      fault_counts c.loop-moved.moved c.next-operation.result,
+    ))
+
+pub returns-clause-counted : goal.returns-clause-counted
+returns-clause-counted g c =
+    rw c.unfailed.ensures
+    (omega (arith, c.loop-moved.invariant.unfailed, unfailed_counts_none c.min-count.result c.loop-moved.t))
+
 pub returns-in-Err-clause-moved : goal.returns-in-Err-clause-moved
 returns-in-Err-clause-moved g c =
     let blocks = g.B.Backend.blocks in
@@ -121,7 +141,7 @@ loop-moved-preserved g c =
       ready = ready_behind (length c.args.out.now) c.args.out.now c.loop-moved.t c.make.new.t
           (blocks c.loop-moved.medium) (blocks c.make.new.medium) c.loop-moved.pool c.make.new.pool
           c.next-operation.result known.ready one used c.next-operation.ensures.value;
-      later = omega (arith, known.later, c.make.ensures.cause.later);
+      unfailed = c.in-Ok-None.ensures.cause.kept ∙ known.unfailed;
       count = known.count;
       small = known.small;
     }

@@ -17,7 +17,7 @@ invariant-loop-moved g l =
       read : LastIsRead (left l.initial.t) l.moved (blocks l.medium) (blocks_of l.pool l.initial.t.lease);
       used : Uses l.initial.pool l.pool l.initial.t.lease;
       ready : IsReady (length l.out) (length (blocks l.medium)) l.pool l.t;
-      later : faults l.initial.medium ≤ faults l.medium;
+      unfailed : faults l.medium ≡ faults l.initial.medium;
       count : l.count ≤ length (left l.initial.t);
       small : length l.initial.t.plan.operations < 2 ^ 32;
     }

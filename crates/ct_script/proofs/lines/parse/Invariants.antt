@@ -8,6 +8,7 @@ abbrev pub invariant-loop-text : goal.invariant-loop-text
 invariant-loop-text l = record {
   same : lines_from l.draft l.no l.lines ≡ script_of l.bytes;
   few : l.no ≤ MOST_LINES + 1;
+  number : l.no ≡ length l.draft + 1;
 }
 
 abbrev pub decreases-loop-text : goal.decreases-loop-text

@@ -5,11 +5,10 @@ use Rattle.ct_book.specs.Journals.{BookState}
 use Rattle.ct_book.specs.Kept.{events_for}
 use Rattle.ct_machine.specs.declared.act.Opening.{Opening}
 use Rattle.ct_script.specs.declared.script.Line.{Line}
-use Rattle.ct_script.specs.Rules.{IsWithin}
+use Rattle.ct_script.specs.Lines.{IsWithin}
 use Rattle.ct_top.specs.Commands.{room_of, opening_of}
-use Rattle.ct_top.specs.Played.{MayFail, Drains, ByLines, IsPlayed}
+use Rattle.ct_top.specs.Played.{point_of, Drains, ByLines, IsPlayed}
 use Rattle.ct_top.proofs.Ranges.{few_events}
-use Rattle.ct_top.proofs.Draining.{played_whole}
 use Rattle.ct_top.proofs.Arriving.{all_come}
 use Rattle.ct_top.proofs.played.play_on.Goals as goal
 
@@ -28,19 +27,19 @@ returns-clause-played g c =
     let room : c.room_of-room.result ≡ room_of blocks script =
     c.room_of-room.ensures ∙ ap (λ n. room_of n c.lines.result.now) c.len.ensures ∙ ap (room_of blocks) c.lines.ensures in
     let opening : first.opening ≡ opening_of blocks script = c.in_ok-pair.ensures.opening ∙ ap (λ (r : Room). record (opening_of blocks script) { room = r }) room in
-    let lines : ByLines (opening_of blocks script) (MayFail first.desk.faults second.desk.faults) script [] second.book.journal =
-    subst (λ (journal : List Logged). ByLines (opening_of blocks script) (MayFail first.desk.faults second.desk.faults) script journal second.book.journal) c.in_ok-pair.ensures.empty
-    (subst (λ (ls : List Line). ByLines (opening_of blocks script) (MayFail first.desk.faults second.desk.faults) ls first.book.journal second.book.journal) c.into_lines.ensures.lines
-    (subst (λ (o : Opening). ByLines o (MayFail first.desk.faults second.desk.faults) c.into_lines.result.items first.book.journal second.book.journal) opening c.in_ok-play_lines.ensures.done)) in
-    let drained : Drains (opening_of blocks script) (MayFail second.desk.faults third.desk.faults) second.book.journal third.book.journal =
-    subst (λ (o : Opening). Drains o (MayFail second.desk.faults third.desk.faults) second.book.journal third.book.journal) (c.play_lines.ensures.opening ∙ opening) c.drain.ensures.drained in
-    let whole : IsPlayed (opening_of blocks script) (MayFail 0 third.desk.faults) script third.book.journal =
-    played_whole (opening_of blocks script) script second.book.journal third.book.journal first.desk.faults second.desk.faults third.desk.faults lines drained c.drain.ensures.later in
-    subst (λ f. IsPlayed (opening_of blocks script) (MayFail 0 f) script c.close.result.book.journal) (sym c.close.ensures.faults)
-    (subst (λ (book : BookState). IsPlayed (opening_of blocks script) (MayFail 0 third.desk.faults) script book.journal) (sym c.close.ensures.book) whole)
+    let lines : ByLines (opening_of blocks script) script (record { journal = []; faults = first.desk.faults }) (point_of second) =
+    subst (λ (journal : List Logged). ByLines (opening_of blocks script) script (record { journal = journal; faults = first.desk.faults }) (point_of second)) c.in_ok-pair.ensures.empty
+    (subst (λ (ls : List Line). ByLines (opening_of blocks script) ls (point_of first) (point_of second)) c.into_lines.ensures.lines
+    (subst (λ (o : Opening). ByLines o c.into_lines.result.items (point_of first) (point_of second)) opening c.in_ok-play_lines.ensures.done)) in
+    let drained : Drains (opening_of blocks script) (point_of second) (point_of third) =
+    subst (λ (o : Opening). Drains o (point_of second) (point_of third)) (c.play_lines.ensures.opening ∙ opening) c.drain.ensures.drained in
+    let whole : IsPlayed (opening_of blocks script) script (point_of third) =
+    record { from = first.desk.faults; last = point_of second; lines_done = lines; drained = drained } in
+    subst (λ f. IsPlayed (opening_of blocks script) script (record { journal = c.close.result.book.journal; faults = f })) (sym c.close.ensures.faults)
+    (subst (λ (book : BookState). IsPlayed (opening_of blocks script) script (record { journal = book.journal; faults = third.desk.faults })) (sym c.close.ensures.book) whole)
 
 pub returns-clause-arrived : goal.returns-clause-arrived
 returns-clause-arrived g c =
     let n = length (g.B.Backend.blocks c.args.medium) in
     all_come (λ o journal done fault. c.arrivals_alone_take_room.ensures o journal done fault) (λ o journal run. c.works_are_kept.ensures o journal run)
-    (MayFail 0 (g.B.Backend.faults c.close.result.medium)) n c.args.script c.close.result.book.journal (returns-clause-played g c) (search rules)
+    n c.args.script (record { journal = c.close.result.book.journal; faults = g.B.Backend.faults c.close.result.medium }) (returns-clause-played g c) (search rules)

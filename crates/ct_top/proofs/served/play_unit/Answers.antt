@@ -3,9 +3,8 @@ use Rattle.std.proofs.lemmas.List.{length-replicate}
 use Rattle.std.specs.Prelude.{replicate}
 use Rattle.ct_machine.specs.Runs.{replay, IsRun}
 use Rattle.ct_top.specs.Commands.{opening_of}
-use Rattle.ct_top.specs.Played.{MayFail, IsPlayed}
-use Rattle.ct_top.specs.Served.{NoFault}
-use Rattle.ct_top.proofs.Draining.{played_wider, no_fault, at_rest, restricted}
+use Rattle.ct_top.specs.Played.{IsPlayed}
+use Rattle.ct_top.proofs.Draining.{at_rest, restricted}
 use Rattle.ct_top.proofs.served.play_unit.Goals as goal
 
 pub returns : goal.returns
@@ -16,9 +15,9 @@ returns c =
     let opening = opening_of c.args.blocks script in
     let size : length c.in_ok-open.field-0 ≡ c.args.blocks = ap length c.in_ok-open.ensures ∙ length-replicate c.args.blocks (replicate 512 0) in
     let run : IsRun opening journal = subst (λ n. IsRun (opening_of n script) journal) size c.in_ok-lun.ensures.run in
-    let played : IsPlayed opening NoFault script journal =
-    played_wider opening (MayFail 0 0) NoFault script journal no_fault (subst (λ n. IsPlayed (opening_of n script) (MayFail 0 0) script journal) size c.in_ok-lun.ensures.played) in
-    let rest = at_rest opening NoFault played.last journal played.drained (c.runs_never_stop.ensures opening journal run) in
+    let played : IsPlayed opening script (record { journal = journal; faults = 0 }) =
+    subst (λ n. IsPlayed (opening_of n script) script (record { journal = journal; faults = 0 })) size c.in_ok-lun.ensures.played in
+    let rest = at_rest opening played.last (record { journal = journal; faults = 0 }) played.drained (c.runs_never_stop.ensures opening journal run) in
     let disk : end.medium ≡ (replay opening journal).blocks = subst (λ n. end.medium ≡ (replay (opening_of n script) journal).blocks) size c.in_ok-lun.ensures.disk in
     record {
       lun = c.in_ok-lun.ensures.lun;

@@ -1,6 +1,5 @@
-use Rattle.std.proofs.Common.{◌≡◌, ◌≤◌, ◌+◌, ℕ, false, Some, None, IsNone, length, refl, sym, ap, ◌∙◌, subst, arith}
+use Rattle.std.proofs.Common.{◌≡◌, ◌≤◌, ℕ, false, Some, None, IsNone, length, refl, sym, ap, ◌∙◌, subst, arith}
 use Rattle.ct_word.specs.declared.names.Node.TheVariants.{A}
-use Rattle.ct_book.specs.declared.work.Command.{Command}
 use Rattle.ct_book.specs.declared.work.Work.TheVariants as work
 use Rattle.ct_book.specs.Journals.{BookState, numbered, with_work}
 use Rattle.ct_exec.specs.Executions.{plan_in, need_in}

@@ -19,7 +19,7 @@ returns-in-Some g c =
     let mid : Desk = c.check.new.self in
     let at : ℕ = c.args.at in
     let named : c.slot.result.now.no ≡ (slot_at old.slots at).no = ap (λ (s : Slot). s.no) c.slot.ensures in
-    let command : c.command.result.now ≡ command_in c.args.book.now.works (slot_at old.slots at).no = c.command.ensures ∙ ap (command_in c.args.book.now.works) named in
+    let command : c.command.result.now ≡ command_in c.args.book.now.works (slot_at old.slots at).no = c.command.ensures.command ∙ ap (command_in c.args.book.now.works) named in
     let changed : mid ≡ with_control old (refused_control old.control (command_in c.args.book.now.works (slot_at old.slots at).no)) =
     c.in-Some.ensures.refused ∙ ap (λ (x : Command). with_control old (refused_control old.control x)) command in
     let answered : refusal_of old.control (length old.blocks) (command_in c.args.book.now.works (slot_at old.slots at).no) ≡ Some (refused_reply c.in-Some.refusal) =

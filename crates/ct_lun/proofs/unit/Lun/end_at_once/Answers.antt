@@ -18,8 +18,8 @@ returns g c =
     let new : Desk = c.instant-reply.new.self in
     let leaves : Leaves old out c.args.at = c.take_out-body.ensures.leaves in
     record {
-      reply = c.instant-reply.result;
+      reply = c.instant-reply.result.reply;
       leaves = subst (λ (d : Desk). Leaves (with_control old new.control) d c.args.at) (sym c.instant-reply.ensures.after) (leaves_control old out c.args.at new.control leaves);
-      execution = rw (leaves.control, leaves.blocks, c.command.ensures, c.slot.ensures) at c.instant-reply.ensures.done;
+      execution = rw (leaves.control, leaves.blocks, c.command.ensures.command, c.slot.ensures) at c.instant-reply.ensures.done;
       kept = rw c.slot.ensures at c.close.ensures;
     }

@@ -26,7 +26,7 @@ returns-in-Ok-clause-answer g c =
     let book : BookState = c.args.book.now in
     let number : ℕ = c.args.no in
     let command : Command = c.command-command.result.now in
-    let named : command ≡ command_in book.works number = c.command-command.ensures in
+    let named : command ≡ command_in book.works number = c.command-command.ensures.command in
     let need : c.need.result ≡ need_in (length old.blocks) command =
     c.need.ensures ∙ c.requires.need ∙ ap (need_in (length old.blocks)) (sym named) in
     let free : turned_cause (state_of old book) (command_in book.works number) ≡ None =
@@ -39,7 +39,7 @@ returns-in-Ok-clause-wrote g c =
     let book : BookState = c.args.book.now in
     let number : ℕ = c.args.no in
     let command : Command = c.command-command.result.now in
-    let named : command ≡ command_in book.works number = c.command-command.ensures in
+    let named : command ≡ command_in book.works number = c.command-command.ensures.command in
     let need : c.need.result ≡ need_in (length old.blocks) command =
     c.need.ensures ∙ c.requires.need ∙ ap (need_in (length old.blocks)) (sym named) in
     let free : turned_cause (state_of old book) (command_in book.works number) ≡ None =
@@ -88,7 +88,7 @@ returns-in-Ok-clause-agrees g c =
     let book : BookState = c.args.book.now in
     let number : ℕ = c.args.no in
     let command : Command = c.command-command.result.now in
-    let named : command ≡ command_in book.works number = c.command-command.ensures in
+    let named : command ≡ command_in book.works number = c.command-command.ensures.command in
     let need : c.need.result ≡ need_in (length old.blocks) command =
     c.need.ensures ∙ c.requires.need ∙ ap (need_in (length old.blocks)) (sym named) in
     let mid : Desk = c.admit.new.self in
@@ -135,7 +135,7 @@ returns-in-Err-clause-answer g c =
     let book : BookState = c.args.book.now in
     let number : ℕ = c.args.no in
     let command : Command = c.command-command.result.now in
-    let named : command ≡ command_in book.works number = c.command-command.ensures in
+    let named : command ≡ command_in book.works number = c.command-command.ensures.command in
     let need : c.need.result ≡ need_in (length old.blocks) command =
     c.need.ensures ∙ c.requires.need ∙ ap (need_in (length old.blocks)) (sym named) in
     let cause : turned_cause (state_of old book) (command_in book.works number) ≡ Some (refused_reply c.in-Err.refusal) =
@@ -148,7 +148,7 @@ returns-in-Err-clause-wrote g c =
     let book : BookState = c.args.book.now in
     let number : ℕ = c.args.no in
     let command : Command = c.command-command.result.now in
-    let named : command ≡ command_in book.works number = c.command-command.ensures in
+    let named : command ≡ command_in book.works number = c.command-command.ensures.command in
     let need : c.need.result ≡ need_in (length old.blocks) command =
     c.need.ensures ∙ c.requires.need ∙ ap (need_in (length old.blocks)) (sym named) in
     let cause : turned_cause (state_of old book) (command_in book.works number) ≡ Some (refused_reply c.in-Err.refusal) =

@@ -1,0 +1,9 @@
+use Rattle.std.proofs.Common.{◌≡◌, ◌≤◌, length, take, arith}
+use Rattle.std.proofs.lemmas.List.{take_all}
+use Rattle.ct_resv.proofs.Listing.{statuses_fit}
+use Rattle.ct_resv.proofs.reservations.Reservations.statuses.Goals as goal
+
+pub returns-clause-few : goal.returns-clause-few
+returns-clause-few c =
+    rw (c.loop-registrant.invariant, take_all _ _ c.loop-registrant-test.false)
+    (statuses_fit c.args.self.now c.as_slice-registrant-items.result.now c.as_slice-registrant-items.ensures.few)
