@@ -37,7 +37,7 @@ abbrev unit : Opening
 unit = unit_of ha.MODE 16
 
 abbrev script : List Move
-script = SCRIPT ∷ []
+script = SCRIPT
 
 abbrev journal : List Logged
 journal = played unit script
@@ -67,15 +67,16 @@ is_silent _ = false
 
 
 class Machine:
-    def __init__(self, name, module, was, becomes, mode, script, clause, proof, kept, uses=""):
-        self.name, self.module, self.was, self.becomes, self.uses = name, module, was, becomes, uses
+    def __init__(self, name, module, was, becomes, mode, script, clause, proof, kept, uses="", before=""):
+        self.name, self.module, self.was, self.becomes, self.uses, self.before = name, module, was, becomes, uses, before
         self.mode, self.script, self.clause, self.proof, self.kept = mode, script, clause, proof, kept
 
     def title(self):
         return "".join(word.capitalize() for word in self.name.split("-"))
 
     def head(self):
-        return HEAD.replace("MODE", self.mode).replace("SCRIPT", " ∷ ".join(self.script))
+        script = " ∷ ".join(self.script + ["[]"])
+        return HEAD.replace("MODE", self.mode).replace("SCRIPT", f"{self.before} ({script})" if self.before else script)
 
     def refutation(self):
         refuted = f"refuted : {self.clause} unit journal → ⊥\nunfolding machine beside due_of\nrefuted law = {self.proof}\n"
@@ -106,7 +107,8 @@ def false_is_true_of(test, term):
 ABORT = "asks 10 A 0 (AbortTask (record { 0 = 1 }))"
 GRANTED = ["write 10 B 1 2 0 6 0x77", "deliver A", "step 3 1"]
 # two commands of a nexus that is removed wait, and one of another between them
-ABORTED = ["preempted (aborts 14 ∷ read 15 A 1 2 0 1 ∷ no_read 16 A 0 6 ∷ read 17 A 1 3 1 1 ∷ next ∷ [])"]
+# (`preempted` puts moves before those that it is given)
+ABORTED = ["aborts 14", "read 15 A 1 2 0 1", "no_read 16 A 0 6", "read 17 A 1 3 1 1", "next"]
 # the events behind which the first of them is cut
 BEFORE_THE_CUTS = ON_ONE_NODE + 18
 CUT = "cut_at (By by) _ task s = leaves task.no (record s { functions = noted by task.no s.functions })"
@@ -194,7 +196,7 @@ MACHINES = [
         "followed (replies (event.Ended task.no) execution.reply s) (λ ended",
         "followed (says (event.Closed task.no Complete) s) (λ ended",
         "None", ["no_read 8 A 0 1", "step 3 1"],
-        "IsTyped", false_is_true_of("is_asked_for", at(4, ".1.0")),
+        "IsTyped", false_is_true_of("is_asked_for", at(4, ".1")),
         "has (is_entry 3) journal ≡ true"),
     # an abort says that another work cut the command, which never came
     Machine(
@@ -210,7 +212,7 @@ MACHINES = [
         "else taking_up number ask s",
         "else says (event.Closed number Complete) s",
         "None", [ABORT],
-        "IsTyped", false_is_true(at(ON_ONE_NODE + 1, ".1.1")),
+        "IsTyped", false_is_true(at(ON_ONE_NODE + 1, ".2")),
         "comes_first (is_asked 3) (is_entry 3) journal ≡ true"),
     # PREEMPT AND ABORT cuts the commands from the end of the queue
     Machine(
@@ -219,7 +221,7 @@ MACHINES = [
         "followed (clearing_all by cleared numbers s) (λ cut. clearing by cleared (task_of number cut.tasks) cut)",
         "None", ABORTED, "IsTimely",
         false_is_true_of("is_cut 7", at(BEFORE_THE_CUTS, "", "law.each")),
-        "comes_first (is_entry 7) (is_entry 9) journal ≡ true"),
+        "comes_first (is_entry 7) (is_entry 9) journal ≡ true", before="preempted"),
     # it cuts the waiting commands of a nexus that it didn't remove
     Machine(
         "cuts-another-nexus", "Events",
@@ -227,7 +229,7 @@ MACHINES = [
         "is_cleared cleared task = is_waiting task.stage && contains cleared (record { port = 0; init = 1 })",
         "None", ABORTED, "IsTimely",
         false_is_true_of("is_cut 9", at(BEFORE_THE_CUTS + 1, "", "law.each")),
-        "has (is_entry 8) journal ≡ false"),
+        "has (is_entry 8) journal ≡ false", before="preempted"),
     # it says that the initiators are told, though TAS is 0
     Machine(
         "tells-without-tas", "Acts",
@@ -235,7 +237,7 @@ MACHINES = [
         "says (event.Cut task.no 0 (By by) true) s",
         "None", ABORTED, "IsTimely",
         false_is_true_of("is_silent", at(BEFORE_THE_CUTS, "", "law.each")),
-        "has is_silent journal ≡ true"),
+        "has is_silent journal ≡ true", before="preempted"),
 ]
 
 
