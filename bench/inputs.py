@@ -56,6 +56,41 @@ def script(lines):
     return ("\n".join(HEAD + lines) + "\n").encode()
 
 
+def unmap(tag, ranges):
+    """An UNMAP of these ranges, each an LBA and a count."""
+    descriptors = "".join(f"{lba:016x}{count:08x}00000000" for lba, count in ranges)
+    length = 16 * len(ranges)
+    return line(tag, f"42000000000000{length + 8:04x}00", f"{length + 6:04x}{length:04x}00000000{descriptors}")
+
+
+def mixed(tag):
+    """A command on few blocks of a small part of the disk, of any kind that moves blocks."""
+    lba, count, byte = random.randrange(40), random.randrange(1, 9), random.choice(("00", "a5"))
+    kind = random.choice(("read", "write", "write and verify", "look", "compare", "compare and write", "same", "unmap"))
+    if kind == "unmap":
+        return unmap(tag, [(16 * k + lba // 3, random.randrange(4)) for k in random.sample(range(3), 3)])
+    if kind == "compare and write":
+        return line(tag, f"8900{lba:016x}000000{count:02x}0000", f"{byte}*{512 * count}.5a*{512 * count}")
+    code, data = {
+        "read": ("2800", None),
+        "write": ("2a00", f"{byte}*{512 * count}"),
+        "write and verify": ("2e00", f"{byte}*{512 * count}"),
+        "look": ("2f00", None),
+        "compare": ("2f02", f"{byte}*{512 * count}"),
+        "same": ("4100", f"{byte}*512"),
+    }[kind]
+    return line(tag, f"{code}{lba:08x}00{count:04x}00", data)
+
+
+def mixed_script(commands):
+    """Commands of all kinds that move blocks, and steps of them in between."""
+    lines = []
+    for k in range(commands):
+        lines.append(mixed(k))
+        lines += [f"step 0 {random.randrange(k + 1) + HOSTS + 1} {random.randrange(1, 5)}" for _ in range(3)]
+    return script(lines)
+
+
 def inputs():
     random.seed(1)
     yield "noise", random.randbytes(8 << 20)
@@ -76,6 +111,9 @@ def inputs():
     for steps in (16_000, 32_000, 65_000):
         writes = [write(k, 256, counted(256)) for k in range(60)]
         yield f"steps-{steps}", script(writes + [f"step 0 {k % 60 + HOSTS + 1} 1" for k in range(steps)])
+    # all wait in one task set: their ranges lie between one another, and no two share a block
+    yield "unmaps-60", script([unmap(k, [(64 * j + k, 1) for j in range(64)]) for k in range(60)])
+    yield "mixed-60", mixed_script(60)
 
 
 def main():

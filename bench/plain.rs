@@ -29,32 +29,41 @@ struct Script {
     port: bool,
     initiators: HashSet<u32>,
     commands: usize,
+    operations: usize,
     acts: bool,
 }
 
+/// What a command does to its blocks, one phase after another.
 #[derive(Clone, Copy, PartialEq)]
-enum Kind {
-    Read,
-    Write,
-    Inquiry,
-    TestUnitReady,
+enum Phase {
+    Get,
+    Look,
+    Put,
+    PutSecondHalf,
+    PutSame,
+    Zero,
+    Compare,
 }
 
-/// What a command reads or writes; no blocks for INQUIRY and TEST UNIT READY.
-#[derive(Clone, Copy)]
+/// What a command does: its phases, each over its blocks, the bytes of data-out that it asks for, the fault of its
+/// parameter list, and data that aren't blocks.
 struct Transfer {
-    kind: Kind,
-    first: usize,
-    count: usize,
+    phases: &'static [Phase],
+    ranges: Vec<(usize, usize)>,
+    asked: usize,
+    fault: Option<Refusal>,
+    data: Vec<u8>,
+    reports_attention: bool,
 }
 
 /// Why a command is refused, with its additional sense code.
-#[derive(Clone, Copy)]
+#[derive(Clone, Copy, PartialEq)]
 enum Refusal {
     ShortData = 0x1a00,
     Operation = 0x2000,
     Range = 0x2100,
     Field = 0x2400,
+    ListField = 0x2600,
     PowerOn = 0x2901,
 }
 
@@ -144,6 +153,8 @@ impl Script {
             Line::Map { initiator } => self.port && self.blocks.is_some() && self.initiators.insert(*initiator),
             Line::Command(command) => {
                 self.commands += 1;
+                let transfer = decode(command, self.blocks.unwrap_or(0) as usize);
+                self.operations += transfer.map_or(0, |transfer| transfer.operations());
                 self.initiators.contains(&command.initiator)
             }
             Line::Step { .. } | Line::Drain => self.blocks.is_some(),
@@ -151,7 +162,7 @@ impl Script {
         };
         self.acts |= !sets_up;
         self.lines.push(line);
-        is_allowed && self.commands <= 64 && self.lines.len() <= 65_536
+        is_allowed && self.commands <= 64 && self.operations <= 262_144 && self.lines.len() <= 65_536
     }
 }
 
@@ -168,35 +179,101 @@ fn big_endian(bytes: &[u8]) -> usize {
     bytes.iter().fold(0, |value, byte| value << 8 | *byte as usize)
 }
 
-fn decode(cdb: &[u8]) -> Result<Transfer, Refusal> {
-    let kind = match cdb[0] {
-        0x08 | 0x28 | 0xa8 | 0x88 => Kind::Read,
-        0x0a | 0x2a | 0xaa | 0x8a => Kind::Write,
-        0x12 => Kind::Inquiry,
-        0x00 => Kind::TestUnitReady,
-        _ => return Err(Refusal::Operation),
-    };
+/// What the bytes of a CDB say, with the data-out that came, for a disk of so many blocks.
+fn decode(command: &Command, blocks: usize) -> Result<Transfer, Refusal> {
+    use Phase::{Compare, Get, Look, Put, PutSame, PutSecondHalf, Zero};
+    let cdb = &command.cdb[..];
     let size = match cdb[0] >> 5 {
         0 => 6,
-        1 => 10,
+        1 | 2 => 10,
         4 => 16,
         _ => 12,
+    };
+    let phases: &[Phase] = match cdb[0] {
+        0x00 | 0x12 => &[],
+        0x08 | 0x28 | 0xa8 | 0x88 => &[Get],
+        0x0a | 0x2a | 0xaa | 0x8a => &[Put],
+        0x2e | 0x8e => &[Put, Look],
+        0x2f | 0xaf | 0x8f if cdb.len() > 1 && cdb[1] & 2 != 0 => &[Compare],
+        0x2f | 0xaf | 0x8f => &[Look],
+        0x89 => &[Compare, PutSecondHalf],
+        0x41 | 0x93 => &[PutSame],
+        0x42 => &[Zero],
+        _ => return Err(Refusal::Operation),
     };
     if cdb.len() != size || cdb[size - 1] & 4 != 0 {
         return Err(Refusal::Field);
     }
-    let (first, count) = match (kind, size) {
-        (Kind::Inquiry, _) if inquiry_data(cdb).is_none() => return Err(Refusal::Field),
-        (Kind::Inquiry | Kind::TestUnitReady, _) => (0, 0),
+    let (first, count) = match (cdb[0], size) {
+        (0x00 | 0x12 | 0x42, _) => (0, 0),
+        (0x89, _) => (big_endian(&cdb[2..10]), cdb[13] as usize),
         (_, 6) => (big_endian(&cdb[1..4]) & 0x1f_ffff, (cdb[4] as usize + 255) % 256 + 1),
         (_, 10) => (big_endian(&cdb[2..6]), big_endian(&cdb[7..9])),
         (_, 12) => (big_endian(&cdb[2..6]), big_endian(&cdb[6..10])),
         (_, _) => (big_endian(&cdb[2..10]), big_endian(&cdb[10..14])),
     };
-    if size > 6 && cdb[1] >> 5 != 0 || count > 256 {
+    let (refused_bits, least, most) = match cdb[0] {
+        0x00 | 0x08 | 0x0a | 0x12 => (0, 0, 256),
+        0x2e | 0x8e => (0xe6, 0, 256),
+        0x2f | 0xaf | 0x8f => (0xe4, 0, 256),
+        0x89 => (0xe0, 0, 128),
+        0x41 | 0x93 => (0xf7, 1, 256),
+        0x42 => (0x01, 0, 0),
+        _ => (0xe0, 0, 256),
+    };
+    if cdb[1] & refused_bits != 0 || !(least..=most).contains(&count) {
         return Err(Refusal::Field);
     }
-    Ok(Transfer { kind, first, count })
+    let asked = match phases {
+        [Put, ..] | [Compare] => BLOCK * count,
+        [Compare, _] => 2 * BLOCK * count,
+        [PutSame] => BLOCK,
+        _ => 0,
+    };
+    let ranges = vec![(first, count)];
+    let mut transfer = Transfer { phases, ranges, asked, fault: None, data: Vec::new(), reports_attention: true };
+    match cdb[0] {
+        0x12 => {
+            transfer.data = inquiry_data(cdb).ok_or(Refusal::Field)?;
+            transfer.reports_attention = false;
+        }
+        0x42 => {
+            transfer.asked = big_endian(&cdb[7..9]);
+            let list = &command.data[..transfer.asked.min(command.data.len())];
+            match unmapped(list, blocks) {
+                Ok(ranges) => transfer.ranges = ranges,
+                Err(fault) => transfer.fault = Some(fault),
+            }
+        }
+        _ => {}
+    }
+    Ok(transfer)
+}
+
+/// The block descriptors of an UNMAP's list.
+fn unmapped(list: &[u8], blocks: usize) -> Result<Vec<(usize, usize)>, Refusal> {
+    if list.is_empty() {
+        return Ok(Vec::new());
+    }
+    if list.len() < 8 {
+        return Err(Refusal::ShortData);
+    }
+    let (data, length) = (big_endian(&list[..2]), big_endian(&list[2..4]));
+    if length > 1024 || data != length + 6 {
+        return Err(Refusal::ListField);
+    }
+    let whole = &list[8..list.len().min(8 + length)];
+    let descriptors = whole.chunks_exact(16).map(|bytes| (big_endian(&bytes[..8]), big_endian(&bytes[8..12])));
+    let ranges: Vec<_> = descriptors.collect();
+    if ranges.iter().any(|(first, count)| first.saturating_add(*count) > blocks) {
+        return Err(Refusal::Range);
+    }
+    let mut sorted: Vec<_> = ranges.iter().filter(|(_, count)| *count > 0).collect();
+    sorted.sort();
+    if sorted.windows(2).any(|pair| pair[0].0 + pair[0].1 > pair[1].0) {
+        return Err(Refusal::ListField);
+    }
+    Ok(ranges)
 }
 
 const SERIAL: &[u8] = b"CTL-LUN-00000000";
@@ -223,45 +300,94 @@ fn inquiry_data(cdb: &[u8]) -> Option<Vec<u8>> {
 }
 
 fn check(command: &Command, blocks: usize) -> Result<Transfer, Refusal> {
-    let transfer = decode(&command.cdb)?;
-    if transfer.kind == Kind::Write && command.data.len() < BLOCK * transfer.count {
+    let transfer = decode(command, blocks)?;
+    if command.data.len() < transfer.asked {
         Err(Refusal::ShortData)
-    } else if transfer.first.saturating_add(transfer.count) > blocks {
+    } else if let Some(fault) = transfer.fault {
+        Err(fault)
+    } else if transfer.ranges.iter().any(|(first, count)| first.saturating_add(*count) > blocks) {
         Err(Refusal::Range)
     } else {
         Ok(transfer)
     }
 }
 
+impl Transfer {
+    fn blocks(&self) -> usize {
+        self.ranges.iter().map(|(_, count)| count).sum()
+    }
+
+    fn operations(&self) -> usize {
+        self.phases.len() * self.blocks()
+    }
+
+    fn writes(&self) -> bool {
+        use Phase::{Put, PutSame, PutSecondHalf, Zero};
+        self.phases.iter().any(|phase| matches!(phase, Put | PutSecondHalf | PutSame | Zero))
+    }
+
+    /// The block at a place among its own, and how many of its range there are from there on.
+    fn at(&self, mut place: usize) -> (usize, usize) {
+        for (first, count) in &self.ranges {
+            if place < *count {
+                return (first + place, count - place);
+            }
+            place -= count;
+        }
+        unreachable!()
+    }
+}
+
 impl Task {
     /// Whether they have a block in common that one of them writes.
     fn conflicts(&self, other: &Task) -> bool {
-        let (Ok(one), Ok(two)) = (self.transfer, other.transfer) else { return false };
-        let end = (one.first + one.count).min(two.first + two.count);
-        (one.kind == Kind::Write || two.kind == Kind::Write) && one.first.max(two.first) < end
+        let (Ok(one), Ok(two)) = (&self.transfer, &other.transfer) else { return false };
+        let meets = |a: &(usize, usize), b: &(usize, usize)| a.0.max(b.0) < (a.0 + a.1).min(b.0 + b.1);
+        let moves = !one.phases.is_empty() && !two.phases.is_empty();
+        moves && (one.writes() || two.writes()) && one.ranges.iter().any(|a| two.ranges.iter().any(|b| meets(a, b)))
     }
 
     /// Whether it ends with a unit attention of its initiator, if there is one.
     fn reports_attention(&self) -> bool {
-        !matches!(
-            self.transfer,
-            Err(Refusal::Operation | Refusal::Field) | Ok(Transfer { kind: Kind::Inquiry, .. })
-        )
+        match &self.transfer {
+            Err(Refusal::Operation | Refusal::Field) => false,
+            Err(_) => true,
+            Ok(transfer) => transfer.reports_attention,
+        }
     }
 
-    /// Moves on by at most so many blocks, and says by how many.
-    fn move_on(&mut self, transfer: Transfer, disk: &mut [[u8; BLOCK]], most: usize) -> usize {
-        let count = most.min(transfer.count - self.done);
-        let first = transfer.first + self.done;
-        let bytes = disk[first..first + count].as_flattened_mut();
-        match transfer.kind {
-            Kind::Read => self.got.extend_from_slice(bytes),
-            Kind::Write => bytes.copy_from_slice(&self.command.data[BLOCK * self.done..][..BLOCK * count]),
-            Kind::Inquiry => self.got = inquiry_data(&self.command.cdb).unwrap_or_default(),
-            Kind::TestUnitReady => {}
+    /// Moves on by at most so many blocks: by how many, and the offset of a byte of the data-out that differs.
+    fn move_on(&mut self, disk: &mut [[u8; BLOCK]], most: usize) -> (usize, Option<usize>) {
+        let Ok(transfer) = &self.transfer else { return (0, None) };
+        self.got.extend_from_slice(&transfer.data);
+        let (blocks, out) = (transfer.blocks(), &self.command.data);
+        let end = transfer.operations().min(self.done.saturating_add(most));
+        let begun_at = self.done;
+        while self.done < end {
+            let place = self.done % blocks;
+            let (first, left) = transfer.at(place);
+            let count = left.min(end - self.done);
+            let here = &mut disk[first..first + count];
+            match transfer.phases[self.done / blocks] {
+                Phase::Get => self.got.extend_from_slice(here.as_flattened()),
+                Phase::Look => {}
+                Phase::Put => here.as_flattened_mut().copy_from_slice(&out[BLOCK * place..][..BLOCK * count]),
+                Phase::PutSecondHalf => {
+                    here.as_flattened_mut().copy_from_slice(&out[BLOCK * (blocks + place)..][..BLOCK * count]);
+                }
+                Phase::PutSame => here.iter_mut().for_each(|block| block.copy_from_slice(&out[..BLOCK])),
+                Phase::Zero => here.fill([0; BLOCK]),
+                Phase::Compare => {
+                    let bytes = here.as_flattened().iter().zip(&out[BLOCK * place..]);
+                    if let Some(at) = bytes.map(|(a, b)| a == b).position(|same| !same) {
+                        self.done += at / BLOCK + 1;
+                        return (self.done - begun_at, Some(BLOCK * place + at));
+                    }
+                }
+            }
+            self.done += count;
         }
-        self.done += count;
-        count
+        (self.done - begun_at, None)
     }
 }
 
@@ -310,21 +436,26 @@ impl Unit {
         if !task.begun && task.reports_attention() && self.told.insert(task.command.initiator) {
             task.transfer = Err(Refusal::PowerOn);
         }
-        match task.transfer {
+        match &task.transfer {
             Err(refusal) => writeln!(self.report, "ended {number} {}", refusal.sense()).unwrap(),
             Ok(transfer) => {
-                if !task.begun && transfer.count > 0 {
+                let operations = transfer.operations();
+                if !task.begun && operations > 0 {
                     writeln!(self.report, "begun {number}").unwrap();
                 }
                 task.begun = true;
-                let count = task.move_on(transfer, &mut self.disk, blocks);
+                let (count, difference) = task.move_on(&mut self.disk, blocks);
                 if count > 0 {
                     writeln!(self.report, "moved {number} {count}").unwrap();
                 }
-                if task.done < transfer.count {
+                if let Some(offset) = difference {
+                    let sense = format!("f0000e{offset:08x}0a000000001d0000000000");
+                    writeln!(self.report, "ended {number} CHECK CONDITION sense {sense}").unwrap();
+                } else if task.done < operations {
                     return;
+                } else {
+                    push_good(&mut self.report, task);
                 }
-                push_good(&mut self.report, task);
             }
         }
         self.tasks.remove(place);
@@ -332,9 +463,9 @@ impl Unit {
 }
 
 impl Refusal {
-    fn sense(self) -> String {
-        let key = if matches!(self, Refusal::PowerOn) { 6 } else { 5 };
-        check_condition(key, self as u16)
+    fn sense(&self) -> String {
+        let key = if *self == Refusal::PowerOn { 6 } else { 5 };
+        check_condition(key, *self as u16)
     }
 }
 

@@ -11,14 +11,17 @@ import sys
 import tempfile
 
 ROOT = os.path.dirname(os.path.dirname(os.path.abspath(__file__)))
-SPECS = ["States", "Events", "Acts", "Runs", "Serial", "Laws"]
+SPECS = ["Entrances", "States", "Events", "Acts", "Runs", "Serial", "Laws"]
 
 HEAD = """-- A run, and what the law says of it.
-use Rattle.std.proofs.Common.{◌≡◌, ℕ, List, [], ◌∷◌, Bool, true, false, not, ◌==◌, Option, Some, slice_index_or, ap, sym, refl}
+use Rattle.std.proofs.Common.{◌≡◌, ℕ, ◌<◌, List, [], ◌∷◌, ◌++◌, Bool, true, false, not, ◌&&◌, ◌==◌, Option, None, Some}
+use Rattle.std.proofs.Common.{replicate, slice_index_or, ap, sym, refl, arith}
 use Rattle.ct_word.specs.declared.names.Ha.TheVariants as ha
 use Rattle.ct_word.specs.declared.names.Node.TheVariants.{A, B}
-use Rattle.ct_cdb.specs.declared.op.Attr2.TheVariants.{Head}
-use Rattle.ct_tmf.specs.declared.function.Function.TheVariants.{AbortTask, LunReset}
+use Rattle.ct_cdb.specs.declared.op.Attr2.TheVariants.{Simple, Head}
+use Rattle.ct_tmf.specs.declared.function.Function.TheVariants.{AbortTask, ClearTaskSet, LunReset, QueryTask}
+use Rattle.ct_tmf.specs.declared.function.Outcome.{Outcome}
+use Rattle.ct_tmf.specs.declared.function.Outcome.TheVariants.{Complete}
 use Rattle.ct_book.specs.declared.event.Event.{Event}
 use Rattle.ct_book.specs.declared.event.Event.TheVariants as event
 use Rattle.ct_book.specs.declared.event.Logged.{Logged}
@@ -27,11 +30,19 @@ use Rattle.ct_book.specs.Journals.{KeptWork}
 use Rattle.ct_machine.specs.declared.act.Opening.{Opening}
 use Rattle.ct_machine.specs.Runs.{Move, replay}
 use Rattle.ct_machine.specs.Serial.{serial_disk}
-use Rattle.ct_machine.specs.Laws.{has, is_asked, is_begin, is_entry, comes_first, made_by, beside}
-use Rattle.ct_machine.specs.Laws.{IsOrderly, RecordsPrefix, EachOnce, IsByCells, MakesPlans, IsTimely, IsLawful, due_of}
-use Rattle.ct_machine.specs.Laws.{IsTyped as IsTypedJournal}
+use Rattle.ct_machine.specs.Laws.Journals.{has, is_asked, is_begin, is_entry, comes_first, made_by}
+use Rattle.ct_machine.specs.Laws.Cells.{beside}
+use Rattle.ct_machine.specs.Laws.Orderly.{IsOrderly}
+use Rattle.ct_machine.specs.Laws.Prefix.{RecordsPrefix}
+use Rattle.ct_machine.specs.Laws.Once.{EachOnce}
+use Rattle.ct_machine.specs.Laws.Cells.{IsByCells, MakesPlans}
+use Rattle.ct_machine.specs.Laws.Timely.{IsTimely, due_of}
+use Rattle.ct_machine.specs.Laws.Functions.{TellsOfCuts, AnswersFunctions}
+use Rattle.ct_machine.specs.Laws.{IsLawful}
+use Rattle.ct_machine.specs.Laws.Functions.{WaitsForFunctions as WaitsForFunctionsIn, ClosesByNumber as ClosesByNumberIn}
+use Rattle.ct_machine.specs.Laws.Kinds.{IsTyped as IsTypedJournal}
 use Rattle.ct_machine.proofs.Samples.Parts.{machine, unit_of, command, comes, write10, write, read, bytes}
-use Rattle.ct_machine.proofs.Samples.Parts.{asks, step, deliver, next, preempted, aborts, no_read, played}
+use Rattle.ct_machine.proofs.Samples.Parts.{asks, step, deliver, next, preempted, aborts, sets_tas, no_read, played}
 
 abbrev unit : Opening
 unit = unit_of ha.MODE 16
@@ -51,6 +62,23 @@ begins_with_zero blocks = slice_index_or (slice_index_or blocks 0 []) 0 0 == 0
 abbrev IsTyped : Opening → List Logged → Type 0
 IsTyped o journal = IsTypedJournal journal
 
+abbrev WaitsForFunctions : Opening → List Logged → Type 0
+WaitsForFunctions o journal = WaitsForFunctionsIn journal
+
+abbrev ClosesByNumber : Opening → List Logged → Type 0
+ClosesByNumber o journal = ClosesByNumberIn journal
+
+not_below : 5 < 4 → ⊥
+not_below less = omega (arith, less)
+
+abbrev is_complete : Outcome → Bool
+is_complete Complete = true
+is_complete _ = false
+
+abbrev is_complete_at : ℕ → Event → Bool
+is_complete_at wanted (event.Closed number outcome) = number == wanted && is_complete outcome
+is_complete_at wanted _ = false
+
 abbrev is_asked_for : Option KeptWork → Bool
 is_asked_for (Some (work.Ask ask)) = true
 is_asked_for _ = false
@@ -58,6 +86,10 @@ is_asked_for _ = false
 abbrev is_cut : ℕ → Event → Bool
 is_cut wanted (event.Cut number puts why told) = number == wanted
 is_cut wanted _ = false
+
+abbrev is_even : Option ℕ → Bool
+is_even None = true
+is_even (Some offset) = false
 
 abbrev is_silent : Event → Bool
 is_silent (event.Cut number puts why told) = not told
@@ -106,6 +138,7 @@ def false_is_true_of(test, term):
 
 ABORT = "asks 10 A 0 (AbortTask (record { 0 = 1 }))"
 GRANTED = ["write 10 B 1 2 0 6 0x77", "deliver A", "step 3 1"]
+STARTED = GRANTED + ["deliver B", "step 3 2"]
 # two commands of a nexus that is removed wait, and one of another between them
 # (`preempted` puts moves before those that it is given)
 ABORTED = ["aborts 14", "read 15 A 1 2 0 1", "no_read 16 A 0 6", "read 17 A 1 3 1 1", "next"]
@@ -190,6 +223,15 @@ MACHINES = [
         "None", ["read 8 A 0 1 0 8", "step 3 1"],
         "MakesPlans", false_is_true_of("λ (n : ℕ). n == 8", at(ON_ONE_NODE + 4, " refl refl _ refl")),
         "has (is_entry 3) journal ≡ false"),
+    # a compare goes on behind the difference that it found
+    Machine(
+        "compares-on", "Acts",
+        "(moved_to progress.difference (nat_le (length plan) done')",
+        "(moved_to None (nat_le (length plan) done')",
+        "None", ["comes A (command 8 A 0 1 Simple (0x89 ∷ replicate 12 0 ++ 2 ∷ 0 ∷ 0 ∷ []) (bytes 0x11 4))", "step 3 1",
+                 "step 3 1"],
+        "MakesPlans", false_is_true_of("is_even", at(ON_ONE_NODE + 4, "")),
+        "has (is_entry 3) journal ≡ true"),
     # a command that ends at once is answered as a function is
     Machine(
         "command-is-closed", "Acts",
@@ -214,6 +256,41 @@ MACHINES = [
         "None", [ABORT],
         "IsTyped", false_is_true(at(ON_ONE_NODE + 1, ".2")),
         "comes_first (is_asked 3) (is_entry 3) journal ≡ true"),
+    # functions that close in one act close in the order in which they were taken up
+    Machine(
+        "closes-by-age", "Events",
+        "with_function new (function ∷ functions) = if nat_lt new.no function.no then new ∷ function ∷ functions else"
+        " function ∷ with_function new functions",
+        "with_function new (function ∷ functions) = function ∷ with_function new functions",
+        "Serialise",
+        STARTED + ["asks 15 B 1 LunReset", "asks 16 A 0 LunReset", "deliver A", "deliver B", "deliver A"],
+        "ClosesByNumber", f"not_below ({at(ON_TWO_NODES + 15, ' 5 refl')})",
+        "comes_first (is_entry 4) (is_entry 5) journal ≡ true"),
+    # a command begins while a function is open
+    Machine(
+        "begins-beside-a-reset", "Acts",
+        "blocked_by (function ∷ functions) s task = Some function.no",
+        "blocked_by (function ∷ functions) s task = blocker_of (task_set_of s) (held_of (length s.blocks) task)",
+        "Serialise", STARTED + ["asks 15 A 0 LunReset", "no_read 16 A 0 3", "step 5 1"],
+        "WaitsForFunctions", false_is_true(at(ON_TWO_NODES + 10, " refl 4 refl")),
+        "has (is_entry 5) journal ≡ false"),
+    # a command that its own nexus aborts is told so, where TAS is 1
+    Machine(
+        "tells-its-own-nexus", "Events",
+        "is_told s ask task = tells_aborts s.control && not (is_same_nexus ask.nexus task.command.nexus)",
+        "is_told s ask task = tells_aborts s.control",
+        "None", ["sets_tas 8", "next", "read 9 A 0 1 0 2", "asks 11 A 0 ClearTaskSet"],
+        "TellsOfCuts", "differ (" + at(ON_ONE_NODE + 7, " _ _ refl refl") + ")",
+        "has is_silent journal ≡ true"),
+    # a query finds a command of another nexus
+    Machine(
+        "query-finds-another", "Acts",
+        "is_sought ask task = seeks ask task.command.nexus task.command.tag",
+        "is_sought ask task = seeks ask ask.nexus task.command.tag",
+        "None", ["no_read 8 A 0 1", "asks 9 A 1 (QueryTask (record { 0 = 1 }))"],
+        "AnswersFunctions",
+        "differ (sym (ap is_complete (" + at(ON_ONE_NODE + 4, " _ refl") + ")))",
+        "has (is_complete_at 4) journal ≡ true"),
     # PREEMPT AND ABORT cuts the commands from the end of the queue
     Machine(
         "cuts-from-the-end", "Acts",
@@ -261,7 +338,7 @@ def copy(scratch):
     for name in crates:
         shutil.copytree(os.path.join(ROOT, "crates", name), os.path.join(scratch, "crates", name), symlinks=True)
     crate = os.path.join(scratch, "crates", "ct_machine")
-    for folder, kept in (("src", ["act.rt"]), ("specs", [f"{module}.antt" for module in SPECS])):
+    for folder, kept in (("src", ["act.rt"]), ("specs", SPECS + [f"{module}.antt" for module in SPECS])):
         for name in set(os.listdir(os.path.join(crate, folder))) - set(kept):
             path = os.path.join(crate, folder, name)
             shutil.rmtree(path) if os.path.isdir(path) else os.remove(path)
@@ -283,6 +360,13 @@ def put(crate, path, text):
     os.makedirs(os.path.dirname(os.path.join(crate, path)), exist_ok=True)
     with open(os.path.join(crate, path), "w", encoding="utf-8") as file:
         file.write(text)
+
+
+def files(crate, module):
+    """The files of a module of the definitions, its folder's among them."""
+    folder = os.path.join(crate, "specs", module)
+    below = sorted(os.listdir(folder)) if os.path.isdir(folder) else []
+    return [f"specs/{module}.antt"] + [f"specs/{module}/{name}" for name in below]
 
 
 def check(crate, proofs):
@@ -315,13 +399,13 @@ def main():
         if as_it_is is None:
             sys.exit("the machine as it is:\n" + output)
         for machine in wanted:
-            path = f"specs/{machine.module}.antt"
-            text = read(crate, path)
-            found = text.count(machine.was)
+            places = [path for path in files(crate, machine.module) if machine.was in read(crate, path)]
             said = []
-            if found != 1:
-                said.append(f"the text to change stands {found} times in {machine.module}")
+            if len(places) != 1 or read(crate, places[0]).count(machine.was) != 1:
+                said.append(f"the text to change doesn't stand once in {machine.module}")
             else:
+                path = places[0]
+                text = read(crate, path)
                 put(crate, path, text.replace("use ", machine.uses + "use ", 1).replace(machine.was, machine.becomes))
                 refused, output = check(crate, {machine.title(): machine.refutation()})
                 put(crate, path, text)

@@ -75,7 +75,7 @@ up-to-more count more (x ∷ xs) l h = (omega (arith, h.0), up-to-more count mor
 cut_up_to : (by came : ℕ) (event : Event) (reply : Option Reply) → IsSettled came event reply → AreUpTo came (cut_at by event)
 cut_up_to by came (Cut number puts (By cutter) told) reply h = at (cutter == by) where
   at : (same : Bool) → AreUpTo came (if same then number ∷ [] else [])
-  at true = (h, tt)
+  at true = (h.1, tt)
   at false = tt
 cut_up_to by came (Cut number puts Medium told) reply h = tt
 cut_up_to by came (Came number node line) reply h = tt
@@ -141,7 +141,7 @@ closed-set works journal place number outcome logged come settled at is =
     let P : List Logged → Type 0 = IsSettledFrom 0 in
     let split = settled_split 0 (length front) before logged after (omega arith) (subst P whole settled) in
     let Q : Event → Type 0 = λ e. IsSettled (length front) e logged.reply in
-    let within : number ≤ length front = subst Q is split.1 in
+    let within : number ≤ length front = (subst Q is split.1).1 in
     let cuts = cuts_up_to number 0 (length front) before (omega arith) split.0 in
     ap (λ w. set_by (numbered number w) w (cut_by number before)) all
     ∙ ap (λ o. set_by o (front ++ more) (cut_by number before)) (numbered-left number front more within)

@@ -1,5 +1,5 @@
 -- The journal of a book as its works, replies and events change.
-use Rattle.std.proofs.Common.{◌≡◌, inl, inr, ℕ, zero, suc, ◌+◌, ◌-◌, ◌<◌, ◌≤◌, true, false, List, [], ◌∷◌, ◌++◌, length, map, slice_get, slice_set, Option, Some, None, is_some, IsSome, IfSome, refl, sym, ◌∙◌, ap, subst, arith, sub-one}
+use Rattle.std.proofs.Common.{◌≡◌, inl, inr, ℕ, zero, suc, ◌+◌, ◌-◌, ◌<◌, ◌≤◌, Bool, true, false, List, [], ◌∷◌, ◌++◌, length, map, slice_get, slice_set, Option, Some, None, is_some, IsSome, IfSome, refl, sym, ◌∙◌, ap, subst, arith, sub-one}
 use Rattle.std.specs.Prelude.{option_and_then, option_map, IsSomeAnd, if◌then◌else◌}
 use Rattle.std.specs.List.{cons_option}
 use Rattle.std.proofs.lemmas.Option.{same_Some, none-some, slice_get_within, slice_get_cases, slice_get-map}
@@ -14,8 +14,9 @@ use Rattle.ct_book.specs.declared.event.Event.{Event}
 use Rattle.ct_book.specs.declared.event.Event.TheVariants.{Came, Enter, Turned, Begun, Granted, Moved, Ended, Cut, Asked, Closed, Deliver}
 use Rattle.ct_book.specs.declared.event.Why.TheVariants.{By, Medium}
 use Rattle.ct_book.specs.declared.event.Logged.{Logged}
-use Rattle.ct_book.specs.Journals.{KeptWork, BookState, told_in, is_command, line_of, has_room, with_work, arrived, numbered, works_in, reply_in, reply_at, IsInOrder, IsNumberedFrom}
-use Rattle.ct_book.specs.Kept.{CanBePushed, work_at, logged_with, logged_all, IsSettled, IsSettledFrom, IsKept, IsBodyOf, AreKept, HasNexus}
+use Rattle.ct_book.specs.Journals.{KeptWork, BookState, told_in, reply_of, is_command, line_of, has_room, with_work, arrived, numbered, works_in, reply_in, reply_at, IsInOrder, IsNumberedFrom}
+use Rattle.ct_book.specs.Facts.{About, NewWork, AnyWork, ACommand, AFunction, facts_of}
+use Rattle.ct_book.specs.Kept.{CanBePushed, IsAbout, StandsIf, IsAmongIf, work_at, logged_with, logged_all, IsSettled, IsSettledFrom, IsKept, IsBodyOf, AreKept, HasNexus}
 use Rattle.ct_book.proofs.Places.{get-push, get-write, numbered-within, numbered-stays, numbered-last, numbered-apart}
 
 -- how many works a journal has, by its first event and the others
@@ -74,18 +75,13 @@ same-work works works' next (Closed number outcome) keeps h = refl
 same-work works works' next (Deliver node kind number) keeps h = refl
 
 pub same-reply : (replies replies' : List (Option Reply)) (came : ℕ) (event : Event) → Keeps (reply_in replies) (reply_in replies') → IsSettled came event (reply_at replies event) → reply_at replies' event ≡ reply_at replies event
-same-reply replies replies' came (Ended number) keeps h = is_the_same (reply_in replies) (reply_in replies') number keeps h
-same-reply replies replies' came (Turned number) keeps h = is_the_same (reply_in replies) (reply_in replies') number keeps h
-same-reply replies replies' came (Cut number puts Medium told) keeps h = is_the_same (reply_in replies) (reply_in replies') number keeps h
-same-reply replies replies' came (Cut number puts (By by) told) keeps h = refl
-same-reply replies replies' came (Came number node line) keeps h = refl
-same-reply replies replies' came (Enter number) keeps h = refl
-same-reply replies replies' came (Begun number) keeps h = refl
-same-reply replies replies' came (Granted number) keeps h = refl
-same-reply replies replies' came (Moved number count) keeps h = refl
-same-reply replies replies' came (Asked number) keeps h = refl
-same-reply replies replies' came (Closed number outcome) keeps h = refl
-same-reply replies replies' came (Deliver node kind number) keeps h = refl
+same-reply replies replies' came event keeps h = go (facts_of event).has_reply h.0 where
+  number : ℕ
+  number = (facts_of event).no
+
+  go : (told : Bool) → StandsIf told (if told then reply_in replies number else None) → (if told then reply_in replies' number else None) ≡ (if told then reply_in replies number else None)
+  go true stands = is_the_same (reply_in replies) (reply_in replies') number keeps stands
+  go false stands = refl
 
 -- the journal stays the same where what stood stays
 pub same-journal : (works works' : List KeptWork) (replies replies' : List (Option Reply)) (came came' : ℕ) (events : List Event) → Keeps (λ n. numbered n works) (λ n. numbered n works') → Keeps (reply_in replies) (reply_in replies') → IsNumberedFrom came (logged_all works replies events) → IsSettledFrom came' (logged_all works replies events) → logged_all works' replies' events ≡ logged_all works replies events
@@ -102,7 +98,7 @@ keeps-same look = record { stays = λ number item h. h }
 
 -- an event that can be written is no arrival
 not_came : (book : BookState) (event : Event) → CanBePushed book event → work_at book.works event ≡ None
-not_came book (Came number node line) h = absurd h
+not_came book (Came number node line) h = absurd h.0
 not_came book (Enter number) h = refl
 not_came book (Turned number) h = refl
 not_came book (Begun number) h = refl
@@ -120,7 +116,7 @@ told book event h = ap (λ (o : Option KeptWork). logged_as o) (not_came book ev
   logged_as o = record { event = event; work = o; reply = reply_at book.replies event }
 
 in_order : (next : ℕ) (book : BookState) (event : Event) → CanBePushed book event → IsInOrder next event (work_at book.works event)
-in_order next book (Came number node line) h = absurd h
+in_order next book (Came number node line) h = absurd h.0
 in_order next book (Enter number) h = tt
 in_order next book (Turned number) h = tt
 in_order next book (Begun number) h = tt
@@ -138,19 +134,27 @@ within number works P h = by_cases (numbered number works) refl h where
   by_cases None e h = absurd h
   by_cases (Some came) e h = numbered-within number works came e
 
+among : (book : BookState) (about : About) (number : ℕ) → IsAbout book about number → number ≤ length book.works
+among book NewWork number h = absurd h
+among book AnyWork number h = within number book.works (λ came. Unit {0}) (some_and (numbered number book.works) h) where
+  some_and : (o : Option KeptWork) → IsSome o → IsSomeAnd o (λ came. Unit {0})
+  some_and None h = absurd cc
+  some_and (Some came) h = tt
+among book ACommand number h = within number book.works (λ came. is_command came ≡ true) h
+among book AFunction number h = within number book.works (λ came. is_command came ≡ false) h
+
 settled : (book : BookState) (event : Event) → CanBePushed book event → IsSettled (length book.works) event (reply_at book.replies event)
-settled book (Came number node line) h = absurd h
-settled book (Enter number) h = tt
-settled book (Turned number) h = h.1
-settled book (Begun number) h = tt
-settled book (Granted number) h = tt
-settled book (Moved number count) h = tt
-settled book (Ended number) h = h.1
-settled book (Cut number puts Medium told) h = h.1
-settled book (Cut number puts (By by) told) h = within number book.works (λ came. is_command came ≡ true) h.0
-settled book (Asked number) h = tt
-settled book (Closed number outcome) h = within number book.works (λ came. is_command came ≡ false) h
-settled book (Deliver node kind number) h = tt
+settled book event h = (stands (facts_of event).has_reply h.2, is_among (facts_of event).is_entry) where
+  number : ℕ
+  number = (facts_of event).no
+
+  stands : (told : Bool) → StandsIf told (reply_of book number) → StandsIf told (if told then reply_in book.replies number else None)
+  stands true h = h
+  stands false h = tt
+
+  is_among : (entry : Bool) → IsAmongIf entry number (length book.works)
+  is_among true = among book (facts_of event).about number h.0
+  is_among false = tt
 
 -- what a book keeps of its journal, at other events
 pub record HasJournal (works : List KeptWork) (journal : List Logged) : Type 0 where
@@ -225,7 +229,7 @@ journal-add works replies events came node has =
       record {
         in_order = numbered-push 0 journal last (length works + 1) (omega arith) has.in_order (refl, refl);
         come = ap (λ l. l ++ came ∷ []) has.come ∙ sym (works-push journal last);
-        settled = settled-push 0 journal last (length works) (omega arith) has.settled tt;
+        settled = settled-push 0 journal last (length works) (omega arith) has.settled (tt, tt);
       },
     )
 

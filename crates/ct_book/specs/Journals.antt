@@ -1,5 +1,5 @@
 -- The journal of a logical unit, as contracts see it.
-use Rattle.std.specs.Prelude.{◌≡◌, ℕ, zero, suc, ◌+◌, ◌-◌, List, [], ◌∷◌, ◌++◌, length, slice_get, slice_set, Bool, true, false, ◌&&◌, nat_lt, nat_le, Option, None, Some, option_and_then}
+use Rattle.std.specs.Prelude.{◌≡◌, ℕ, zero, suc, ◌+◌, ◌-◌, List, [], ◌∷◌, ◌++◌, length, slice_get, slice_set, Bool, true, false, ◌&&◌, nat_lt, nat_le, if◌then◌else◌, Option, None, Some, option_and_then}
 use Rattle.std.specs.List.{filter_map}
 use Rattle.ct_word.specs.declared.names.Node.{Node}
 use Rattle.ct_sense.specs.declared.reply.Reply.{Reply}
@@ -7,9 +7,9 @@ use Rattle.ct_book.specs.declared.work.Command.{Command}
 use Rattle.ct_book.specs.declared.work.Work.{Work}
 use Rattle.ct_book.specs.declared.work.Work.TheVariants as work
 use Rattle.ct_book.specs.declared.event.Event.{Event}
-use Rattle.ct_book.specs.declared.event.Event.TheVariants.{Came, Enter, Turned, Begun, Granted, Moved, Ended, Cut, Asked, Closed, Deliver}
-use Rattle.ct_book.specs.declared.event.Why.TheVariants.{By, Medium}
+use Rattle.ct_book.specs.declared.event.Event.TheVariants.{Came}
 use Rattle.ct_book.specs.declared.event.Logged.{Logged}
+use Rattle.ct_book.specs.Facts.{facts_of}
 
 -- a work as it is kept: a command or a function
 abbrev pub KeptWork : Type 0
@@ -76,21 +76,9 @@ reply_in replies number = option_and_then (λ reply. reply) (numbered number rep
 abbrev pub reply_of : BookState → ℕ → Option Reply
 reply_of book number = reply_in book.replies number
 
--- the reply that counts with an event: that of a command that ended, was refused at its arrival, or was cut
--- by a fault of the medium
+-- the reply that counts with an event, if one does
 abbrev pub reply_at : List (Option Reply) → Event → Option Reply
-reply_at replies (Ended number) = reply_in replies number
-reply_at replies (Turned number) = reply_in replies number
-reply_at replies (Cut number puts Medium told) = reply_in replies number
-reply_at replies (Cut number puts (By by) told) = None
-reply_at replies (Came number node line) = None
-reply_at replies (Enter number) = None
-reply_at replies (Begun number) = None
-reply_at replies (Granted number) = None
-reply_at replies (Moved number count) = None
-reply_at replies (Asked number) = None
-reply_at replies (Closed number outcome) = None
-reply_at replies (Deliver node kind number) = None
+reply_at replies event = if (facts_of event).has_reply then reply_in replies (facts_of event).no else None
 
 abbrev pub reply_with : BookState → Event → Option Reply
 reply_with book event = reply_at book.replies event

@@ -1,5 +1,5 @@
 -- How a book is kept: the events by themselves, and the works, bodies and replies by number.
-use Rattle.std.specs.Prelude.{◌≡◌, ℕ, ◌+◌, ◌*◌, ◌<◌, ◌≤◌, ◌^◌, List, [], ◌∷◌, length, map, slice_get, true, false, Option, None, Some, IsSome, IfSome, IsSomeAnd}
+use Rattle.std.specs.Prelude.{◌≡◌, ℕ, ◌+◌, ◌*◌, ◌<◌, ◌≤◌, ◌^◌, List, [], ◌∷◌, length, map, slice_get, Bool, true, false, Option, None, Some, IsSome, IfSome, IsSomeAnd}
 use Rattle.ct_word.specs.Kept.{Kept}
 use Rattle.ct_word.specs.declared.names.Room.{Room}
 use Rattle.ct_word.specs.Nexuses.{IsNexus}
@@ -11,6 +11,7 @@ use Rattle.ct_book.specs.declared.event.Why.{Why}
 use Rattle.ct_book.specs.declared.event.Why.TheVariants.{By, Medium}
 use Rattle.ct_book.specs.declared.event.Logged.{Logged}
 use Rattle.ct_book.specs.Works.{IsReady}
+use Rattle.ct_book.specs.Facts.{About, NewWork, AnyWork, ACommand, AFunction, facts_of}
 use Rattle.ct_book.specs.Journals.{KeptWork, BookState, numbered, works_in, is_command, reply_of, reply_at, IsNumbered}
 
 -- the work that counts with an event: that of an arrival
@@ -64,40 +65,37 @@ IsFunctionNo book number = IsSomeAnd (numbered number book.works) (λ came. is_c
 abbrev pub IsWorkNo : BookState → ℕ → Type 0
 IsWorkNo book number = IsSome (numbered number book.works)
 
--- what cut a command was given a number, or the reply to the command stands
-abbrev pub IsReason : BookState → ℕ → Why → Type 0
-IsReason book number (By by) = IsWorkNo book by
-IsReason book number Medium = IsSome (reply_of book number)
+-- an event can tell of the work with a number: it came, and is of the kind
+abbrev pub IsAbout : BookState → About → ℕ → Type 0
+IsAbout book NewWork number = ⊥
+IsAbout book AnyWork number = IsWorkNo book number
+IsAbout book ACommand number = IsCommandNo book number
+IsAbout book AFunction number = IsFunctionNo book number
 
--- an event can be written: it is no arrival, the numbers that it names were given to works of their kinds, and
--- the reply that counts with it stands
+abbrev pub IsCutter : BookState → Option ℕ → Type 0
+IsCutter book None = Unit {0}
+IsCutter book (Some by) = IsWorkNo book by
+
+abbrev pub StandsIf : Bool → Option Reply → Type 0
+StandsIf true reply = IsSome reply
+StandsIf false reply = Unit {0}
+
+-- an event can be written: it is no arrival, the works that it names came and are of their kinds, and the reply that
+-- counts with it stands
 abbrev pub CanBePushed : BookState → Event → Type 0
-CanBePushed book (Came number node line) = ⊥
-CanBePushed book (Enter number) = IsCommandNo book number
-CanBePushed book (Turned number) = IsCommandNo book number × IsSome (reply_of book number)
-CanBePushed book (Begun number) = IsCommandNo book number
-CanBePushed book (Granted number) = IsCommandNo book number
-CanBePushed book (Moved number count) = IsCommandNo book number
-CanBePushed book (Ended number) = IsCommandNo book number × IsSome (reply_of book number)
-CanBePushed book (Cut number puts why told) = IsCommandNo book number × IsReason book number why
-CanBePushed book (Asked number) = IsFunctionNo book number
-CanBePushed book (Closed number outcome) = IsFunctionNo book number
-CanBePushed book (Deliver node kind number) = IsWorkNo book number
+CanBePushed book event =
+    let told = facts_of event in
+    IsAbout book told.about told.no × IsCutter book told.by × StandsIf told.has_reply (reply_of book told.no)
 
--- the reply that counts with an event stands; who was cut, and what was closed, was among so many works
+abbrev pub IsAmongIf : Bool → ℕ → ℕ → Type 0
+IsAmongIf true number came = number ≤ came
+IsAmongIf false number came = Unit {0}
+
+-- the reply that counts with an event stands; a work that is done was among so many works
 abbrev pub IsSettled : ℕ → Event → Option Reply → Type 0
-IsSettled came (Ended number) reply = IsSome reply
-IsSettled came (Turned number) reply = IsSome reply
-IsSettled came (Cut number puts Medium told) reply = IsSome reply
-IsSettled came (Cut number puts (By by) told) reply = number ≤ came
-IsSettled came (Closed number outcome) reply = number ≤ came
-IsSettled came (Came number node line) reply = Unit {0}
-IsSettled came (Enter number) reply = Unit {0}
-IsSettled came (Begun number) reply = Unit {0}
-IsSettled came (Granted number) reply = Unit {0}
-IsSettled came (Moved number count) reply = Unit {0}
-IsSettled came (Asked number) reply = Unit {0}
-IsSettled came (Deliver node kind number) reply = Unit {0}
+IsSettled came event reply =
+    let told = facts_of event in
+    StandsIf told.has_reply reply × IsAmongIf told.is_entry told.no came
 
 -- the same of each event of a journal behind so many works
 abbrev pub IsSettledFrom : ℕ → List Logged → Type 0

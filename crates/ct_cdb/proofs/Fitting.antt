@@ -125,10 +125,6 @@ decoded_reports (Ok cdb) out blocks =
     (same_reports cdb.op out blocks)
 decoded_reports (Err fault) out blocks = refl
 
-row_operations : (op : Op) (out : List ℕ) (blocks : ℕ) → operations (profile_of op out blocks) ≤ asked_of op
-row_operations TestUnitReady out blocks = omega arith
-row_operations _ out blocks = omega arith
-
 built_operations : (built : Bool) (profile : Profile) (asked : ℕ) → operations profile ≤ asked
     → operations (built_row built profile) ≤ asked
 built_operations true profile asked few = few
@@ -136,7 +132,6 @@ built_operations false profile asked few = omega arith
 
 -- a command makes no more block operations than it asks for
 pub few_operations : (cdb : Cdb) (out : List ℕ) (blocks : ℕ)
-    → operations (profile_by (Ok cdb) out blocks) ≤ asked_of cdb.op
+    → operations (profile_by (Ok cdb) out blocks) ≤ asked_of cdb.op out blocks
 few_operations cdb out blocks =
-    built_operations (is_built cdb.op) (profile_of cdb.op out blocks) (asked_of cdb.op)
-    (row_operations cdb.op out blocks)
+    built_operations (is_built cdb.op) (profile_of cdb.op out blocks) (asked_of cdb.op out blocks) (omega arith)

@@ -38,7 +38,7 @@ profile_of (op.WriteAndVerify form lba count) out blocks = write_and_verify lba 
 profile_of (op.Verify form compare lba count) out blocks = verify compare lba count
 profile_of (op.CompareAndWrite lba count) out blocks = compare_and_write lba count
 profile_of (op.WriteSame form unmap lba count) out blocks = write_same lba count
-profile_of (op.Unmap list) out blocks = unmap list
+profile_of (op.Unmap list) out blocks = unmap list out blocks
 profile_of (op.SynchronizeCache form lba count) out blocks = synchronize_cache lba count
 profile_of (op.StartStopUnit start) out blocks = start_stop_unit
 profile_of (op.ModeSelect form list) out blocks = mode_select list
@@ -69,20 +69,21 @@ operations profile = length profile.phases * total profile.ranges
 abbrev pub is_performed : ℕ → ℕ → Profile → Bool
 is_performed out blocks profile = not (nat_lt out profile.data_out) && list_all (is_inside blocks) profile.ranges
 
--- the serialisation index of a command, the block operations that it asks for, the room for its data-in, and whether it
--- reports an attention: columns that depend neither on its data-out nor on the disk; a command whose data-out names its
--- blocks asks for none
+-- the serialisation index of a command, the room for its data-in, and whether it reports an attention: columns that
+-- depend neither on its data-out nor on the disk
 abbrev pub index_of : Op → SerIdx
 index_of op = (profile_of op [] 0).index
-
-abbrev pub asked_of : Op → ℕ
-asked_of op = operations (profile_of op [] 0)
 
 abbrev pub room_of : Result Cdb CdbFault → ℕ
 room_of decoded = (profile_by decoded [] 0).data_in
 
 abbrev pub reports : Result Cdb CdbFault → Bool
 reports decoded = (profile_by decoded [] 0).reports_attention
+
+-- the block operations that a command asks for, whether it is refused later or not; those of a command whose data-out
+-- names its blocks depend on the disk too
+abbrev pub asked_of : Op → List ℕ → ℕ → ℕ
+asked_of op out blocks = operations (profile_of op out blocks)
 
 -- a phase reads blocks, or writes blocks
 abbrev pub reads : Phase → Bool

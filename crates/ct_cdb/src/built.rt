@@ -23,13 +23,13 @@ impl Op {
             | Op::Verify { .. }
             | Op::CompareAndWrite { .. }
             | Op::WriteSame { .. }
+            | Op::Unmap { .. }
             | Op::SynchronizeCache { .. }
             | Op::StartStopUnit { .. }
             | Op::ModeSelect { .. }
             | Op::ModeSense { .. }
             | Op::PersistentReserveIn { .. }
             | Op::PersistentReserveOut { .. } => true,
-            Op::Unmap { .. } => false,
         }
     }
 }

@@ -90,7 +90,6 @@ impl Profile {
     pub fn of(op: &Op, out: &[u8], blocks: u32) -> Profile
         ensures { result ≡ profile_of op.now out.now blocks }
     {
-        let (_out, _blocks) = (out, blocks);
         match *op {
             Op::TestUnitReady => inquiries::test_unit_ready(),
             Op::RequestSense {
@@ -112,7 +111,7 @@ impl Profile {
             } => blocks::verify(compare, lba, count),
             Op::CompareAndWrite { lba, count } => blocks::compare_and_write(lba, count),
             Op::WriteSame { lba, count, .. } => blocks::write_same(lba, count),
-            Op::Unmap { list } => blocks::unmap(list),
+            Op::Unmap { list } => blocks::unmap(list, out, blocks),
             Op::SynchronizeCache { lba, count, .. } => blocks::synchronize_cache(lba, count),
             Op::StartStopUnit { .. } => modes::start_stop_unit(),
             Op::ModeSelect { list, .. } => modes::mode_select(list),
@@ -219,17 +218,19 @@ pub fn index(op: &Op) -> SerIdx
     Profile::of(op, &[], 0).index
 }
 
-/// The block operations that a command asks for, whether it is refused later or not.
-pub fn asked(op: &Op) -> u64
-    ensures { result ≡ asked_of op.now }
+/// The block operations that a command with this data-out asks for, on a disk of so many blocks, whether it is refused
+/// later or not. Of UNMAP they are those of its parameter list, and none where that is in fault.
+pub fn asked(op: &Op, out: &[u8], blocks: u32) -> u64
+    ensures { result ≡ asked_of op.now out.now blocks }
 {
-    Profile::of(op, &[], 0).operations()
+    Profile::of(op, out, blocks).operations()
 }
 
 #[cfg(test)]
 mod tests {
     use super::*;
     use crate::op::Form;
+    use crate::ranges::LbaRange;
 
     const READ: Op = Op::Read {
         form: Form::Ten,
@@ -245,7 +246,7 @@ mod tests {
 
     #[test]
     fn asks_for_each_block(rt: HostRuntime) {
-        assert_eq!(rt; (asked(&READ), asked(&WRITE)), (2, 2));
+        assert_eq!(rt; (asked(&READ, &[], 5), asked(&WRITE, &[], 5)), (2, 2));
         assert_eq!(rt; (index(&READ), index(&WRITE)), (SerIdx::Rd, SerIdx::Wr));
     }
 
@@ -260,5 +261,20 @@ mod tests {
         assert_eq!(rt; (read.class, write.class), (Class::Reading, Class::Writing));
         let none = Profile::by(&Err(CdbFault::Empty), &[], 5);
         assert_eq!(rt; (none.index, none.operations()), (SerIdx::Inq, 0));
+    }
+
+    #[test]
+    fn unmaps_the_blocks_of_its_list(rt: HostRuntime) {
+        // two blocks from LBA 2 on, and LBA 8
+        let list =
+            *b"\0\x26\0\x20\0\0\0\0\0\0\0\0\0\0\0\x02\0\0\0\x02\0\0\0\0\0\0\0\0\0\0\0\x08\0\0\0\x01\0\0\0\0";
+        let unmap = Op::Unmap { list: 40 };
+        let row = Profile::of(&unmap, &list, 9);
+        assert_eq!(rt; (row.data_out, row.need, row.operations()), (40, 1, 3));
+        let ranges = [LbaRange { lba: 2, count: 2 }, LbaRange { lba: 8, count: 1 }];
+        assert_eq!(rt; row.ranges.as_slice(), ranges.as_slice());
+        assert!(rt; row.is_performed(40, 9) && !row.is_performed(39, 9));
+        // of a list in fault nothing is asked for
+        assert_eq!(rt; (asked(&unmap, &list, 9), asked(&unmap, &list, 8)), (3, 0));
     }
 }

@@ -1,8 +1,9 @@
-ghost use Rattle.std.specs.Prelude.{◌≡◌, ◌<◌, ◌≤◌, ◌^◌, [], ◌∷◌, length, slice_get, true};
+ghost use Rattle.std.specs.Prelude.{◌≡◌, ◌<◌, ◌≤◌, ◌+◌, ◌*◌, ◌^◌, [], ◌∷◌, ◌++◌, map, length, slice_get, true};
 ghost use Rattle.std.specs.List.{list_all};
-ghost use Rattle.std.specs.Option.{option_to_list};
+ghost use Rattle.ct_cdb.specs.Commands.Blocks.{range_of};
 ghost use Rattle.ct_cdb.specs.Ranges.{total, numbers_of, is_inside};
 
+use ct_param::{UnmapDescriptor, UnmapList};
 use ct_word::limit::{MOST_BLOCKS, MOST_RANGES};
 use std::marker::Model;
 
@@ -13,42 +14,75 @@ pub struct LbaRange {
     pub count: u32,
 }
 
-/// The ranges of blocks that a command names, in order, of fixed size. Contracts see a list.
+/// The ranges of blocks that a command names, in order, at most 64, of fixed size. Contracts see a list.
 #[derive(Debug, Drop)]
 pub struct Ranges {
-    only: Option<LbaRange>,
+    ranges: [LbaRange; MOST_RANGES],
+    count: usize,
 }
 
 impl Model for Ranges {
-    ghost use Rattle.std.specs.Prelude.{List};
-    ghost use Rattle.std.specs.Option.{option_to_list};
+    ghost use Rattle.std.specs.Prelude.{◌≡◌, ◌≤◌, List, length, take};
     ghost use Rattle.ct_cdb.specs.declared.ranges.LbaRange.{LbaRange};
 
     ghost Value = { List LbaRange };
 
-    ghost view = { λ r. option_to_list r.only };
+    ghost view = { λ r. take r.count r.ranges };
+
+    ghost invariant = { λ r. (r.count ≤ 64) × (length r.ranges ≡ 64) };
 }
 
 impl Ranges {
     pub fn none() -> Ranges
         ensures { result ≡ [] }
     {
-        Ranges { only: None }
+        Ranges {
+            ranges: [LbaRange { lba: 0, count: 0 }; MOST_RANGES],
+            count: 0,
+        }
     }
 
     pub fn one(lba: u64, count: u32) -> Ranges
         ensures { result ≡ record { lba = lba; count = count } ∷ [] }
     {
-        Ranges {
-            only: Some(LbaRange { lba, count }),
+        let mut ranges = Ranges::none();
+        ranges.push(LbaRange { lba, count });
+        ranges
+    }
+
+    /// The ranges of an UNMAP's block descriptors.
+    pub(crate) fn of_list(list: &UnmapList) -> Ranges
+        ensures { result ≡ map range_of list.now }
+    {
+        let mut ranges = Ranges::none();
+        ranges.push_all(list.as_slice());
+        ranges
+    }
+
+    fn push_all(&mut self, descriptors: &[UnmapDescriptor])
+        requires { length self.old + length descriptors.now ≤ 64 }
+        ensures { self.new ≡ self.old ++ map range_of descriptors.now }
+    {
+        if let [first, others @ ..] = descriptors {
+            self.push(range_of(*first));
+            self.push_all(others);
         }
     }
 
-    /// The only range, if there is one.
-    pub fn only(&self) -> Option<LbaRange>
-        ensures { option_to_list result ≡ self.now }
+    fn push(&mut self, range: LbaRange)
+        requires { length self.old < 64 }
+        ensures { self.new ≡ self.old ++ range ∷ [] }
     {
-        self.only
+        self.ranges[self.count] = range;
+        self.count += 1;
+    }
+
+    /// The ranges, in order.
+    pub fn as_slice(&self) -> &[LbaRange]
+        ensures ranges { result.now ≡ self.now }
+        ensures few { length result.now ≤ MOST_RANGES }
+    {
+        &self.ranges[..self.count]
     }
 
     /// How many blocks there are.
@@ -57,20 +91,16 @@ impl Ranges {
         ensures small { result < 2 ^ 38 }
         ensures few { length self.now ≤ MOST_RANGES }
     {
-        match self.only {
-            Some(range) => count_of(range),
-            None => 0,
-        }
+        total(self.as_slice())
     }
 
     /// Every range is inside a disk of so many blocks, an empty one too.
     pub fn are_inside(&self, blocks: u32) -> bool
         ensures { result ≡ list_all (is_inside blocks) self.now }
     {
-        match self.only {
-            Some(range) => is_inside(range, blocks),
-            None => true,
-        }
+        self.as_slice()
+            .iter()
+            .all(|range| is_inside(*range, blocks))
     }
 
     /// The LBA of a block by its place in all of the ranges, from 0.
@@ -79,13 +109,16 @@ impl Ranges {
         requires inside { list_all (is_inside MOST_BLOCKS) self.now ≡ true }
         ensures { slice_get (numbers_of self.now) place ≡ Some result }
     {
-        match self.only {
-            Some(range) => {
-                let lba = range.lba + u64::from(place);
-                lba as u32
-            }
-            None => unreachable!(),
-        }
+        lba_at(self.as_slice(), place)
+    }
+}
+
+fn range_of(descriptor: UnmapDescriptor) -> LbaRange
+    ensures { result ≡ range_of descriptor }
+{
+    LbaRange {
+        lba: descriptor.lba,
+        count: descriptor.count,
     }
 }
 
@@ -94,6 +127,36 @@ fn count_of(range: LbaRange) -> u64
     ensures small { result < 2 ^ 32 }
 {
     u64::from(range.count)
+}
+
+fn total(ranges: &[LbaRange]) -> u64
+    requires { length ranges.now ≤ 64 }
+    ensures total { result ≡ total ranges.now }
+    ensures small { result ≤ length ranges.now * (4294967295) }
+{
+    match ranges {
+        [] => 0,
+        [first, others @ ..] => count_of(*first) + total(others),
+    }
+}
+
+// The LBA of a block by its place in these ranges.
+fn lba_at(ranges: &[LbaRange], place: u32) -> u32
+    requires within { place < total ranges.now }
+    requires inside { list_all (is_inside MOST_BLOCKS) ranges.now ≡ true }
+    ensures { slice_get (numbers_of ranges.now) place ≡ Some result }
+{
+    match ranges {
+        [] => unreachable!(),
+        [first, others @ ..] => {
+            if place < first.count {
+                let lba = first.lba + u64::from(place);
+                lba as u32
+            } else {
+                lba_at(others, place - first.count)
+            }
+        }
+    }
 }
 
 fn is_inside(range: LbaRange, blocks: u32) -> bool
@@ -112,14 +175,14 @@ mod tests {
     #[test]
     fn names_no_block(rt: HostRuntime) {
         let none = Ranges::none();
-        assert!(rt; none.only().is_none() && none.are_inside(0));
+        assert!(rt; none.as_slice().is_empty() && none.are_inside(0));
         assert_eq!(rt; none.total(), 0);
     }
 
     #[test]
     fn names_the_blocks_of_a_range(rt: HostRuntime) {
         let one = Ranges::one(3, 2);
-        assert_eq!(rt; one.only(), Some(LbaRange { lba: 3, count: 2 }));
+        assert_eq!(rt; one.as_slice(), [LbaRange { lba: 3, count: 2 }].as_slice());
         assert_eq!(rt; one.total(), 2);
         assert_eq!(rt; (one.lba_at(0), one.lba_at(1)), (3, 4));
     }

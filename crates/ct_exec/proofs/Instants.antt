@@ -41,7 +41,7 @@ unrefused_performed control blocks nexus out (Ok cdb) profile h =
     let ready = first_parts (stopped control profile) _ allowed.1 in
     let current = first_parts (unsaved control cdb.op) _ ready.1 in
     let long = first_parts (short_of_data control (length out) profile) _ current.1 in
-    let listed = first_parts (faulty_list control out cdb.op) _ long.1 in
+    let listed = first_parts (faulty_list control blocks out cdb.op) _ long.1 in
     let inside = first_parts (out_of_range control blocks profile) _ listed.1 in
     go (nat_lt (length out) profile.data_out) (list_all (is_inside blocks) profile.ranges) long.0 inside.0
   where

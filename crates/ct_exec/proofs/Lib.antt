@@ -1,4 +1,3 @@
-pub mod ActionFaults
 pub mod Clears
 pub mod Unrefused
 pub mod UnitData

@@ -9,8 +9,9 @@ use Rattle.ct_ua.specs.Attentions.{power_on_attentions}
 use Rattle.ct_resv.specs.declared.reservations.Reservations.{Reservations}
 use Rattle.ct_resv.specs.Registering.{no_reservations}
 
--- all of a disk but its blocks: the number of the logical unit, its mode pages (SPC-4, 7.5), the unit attentions of each
--- nexus (SAM-5, 5.14), whether the unit is started (SBC-3, START STOP UNIT), and its persistent reservations (SPC-4, 5.12)
+-- all of a disk but its blocks: the number of the logical unit, its mode pages (SPC-4, 7.5), the unit attentions of
+-- each nexus (SAM-5, 5.14), whether the unit is started (SBC-3, START STOP UNIT), and its persistent reservations
+-- (SPC-4, 5.12)
 pub record ControlState : Type 0 where
   pub lun : LunNo
   pub pages : ModePages

@@ -1,6 +1,6 @@
 -- The whole execution of one command, at once (SBC-3, clause 5; SPC-4, 4.5).
-use Rattle.std.specs.Prelude.{ℕ, List, [], ◌∷◌, length, Bool, true, false, not, ◌&&◌, nat_lt, if◌then◌else◌, Option, None}
-use Rattle.std.specs.Prelude.{Some, option_map, Result, Ok, Err}
+use Rattle.std.specs.Prelude.{ℕ, List, [], ◌∷◌, length, Bool, true, false, not, ◌&&◌, nat_lt, if◌then◌else◌}
+use Rattle.std.specs.Prelude.{Option, None, Some, option_map, Result, Ok, Err}
 use Rattle.std.specs.List.{list_all}
 use Rattle.ct_word.specs.declared.names.Code.{Code}
 use Rattle.ct_word.specs.declared.names.Nexus.{Nexus}
@@ -123,10 +123,10 @@ short_of_data control out profile =
     if nat_lt out profile.data_out then Some (check_condition control PARAMETER_LIST_LENGTH_ERROR None) else None
 
 -- its parameter list is in fault
-abbrev pub faulty_list : ControlState → List ℕ → Op → Option Reply
-faulty_list control out op =
+abbrev pub faulty_list : ControlState → ℕ → List ℕ → Op → Option Reply
+faulty_list control blocks out op =
     option_map (λ (fault : ListFault). check_condition control (sense_code_of_fault fault) None)
-    (list_fault control.pages out op)
+    (list_fault control.pages blocks out op)
 
 -- a range isn't inside the disk
 abbrev pub out_of_range : ControlState → ℕ → Profile → Option Reply
@@ -166,7 +166,7 @@ refusal_by control blocks nexus out (Ok cdb) profile =
     ∷ stopped control profile
     ∷ unsaved control cdb.op
     ∷ short_of_data control (length out) profile
-    ∷ faulty_list control out cdb.op
+    ∷ faulty_list control blocks out cdb.op
     ∷ out_of_range control blocks profile
     ∷ write_protected control profile
     ∷ faulty_action control nexus out cdb.op
@@ -190,8 +190,8 @@ pub record Execution : Type 0 where
   pub cleared : List Bool
 
 -- what a command does that nothing refuses: what its phases do at once, what it changes of the control, and whose
--- commands it clears; it returns the data of the unit, or those of its blocks, and its sense data have the form that was
--- asked for before it
+-- commands it clears; it returns the data of the unit, or those of its blocks, and its sense data have the form that
+-- was asked for before it
 abbrev pub effect_of : Disk → Command → Execution
 effect_of disk command =
     let blocks = length disk.blocks in

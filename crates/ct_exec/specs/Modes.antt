@@ -1,4 +1,4 @@
--- What MODE SELECT makes of its parameter list (SPC-4, MODE SELECT).
+-- What MODE SELECT makes of its parameter list (SPC-4, MODE SELECT), and the faults of all parameter lists.
 use Rattle.std.specs.Prelude.{ℕ, List, take, Bool, true, false, if◌then◌else◌, Option, None, Some, Result, Ok, Err}
 use Rattle.ct_word.specs.declared.names.Nexus.{Nexus}
 use Rattle.ct_word.specs.declared.names.Code.TheVariants.{ModeChanged}
@@ -9,10 +9,10 @@ use Rattle.ct_cdb.specs.declared.op.Op.TheVariants as op
 use Rattle.ct_param.specs.declared.fault.ListFault.{ListFault}
 use Rattle.ct_param.specs.declared.mode.ModeList.{ModeList}
 use Rattle.ct_param.specs.ModeLists.{mode_list_of, is_empty}
+use Rattle.ct_param.specs.UnmapLists.{unmap_list_of}
 use Rattle.ct_pages.specs.declared.pages.ModePages.{ModePages}
 use Rattle.ct_pages.specs.Selects.{selected_pages}
 use Rattle.ct_ua.specs.Attentions.{after_raise_for_others}
-use Rattle.ct_param.specs.declared.resv.ResvList.{ResvList}
 use Rattle.ct_exec.specs.Controls.{ControlState}
 use Rattle.ct_exec.specs.Reserving.{reserve_list}
 
@@ -31,20 +31,18 @@ abbrev pub pages_behind : ModePages → Result ModeList ListFault → Result Mod
 pages_behind pages (Ok list) = selected_pages pages list
 pages_behind pages (Err fault) = Err fault
 
--- the fault of a list: one of its bytes alone, or of a page that would change what can't be changed
-abbrev pub fault_of : Result ModePages ListFault → Option ListFault
-fault_of (Ok pages) = None
+-- the fault of a list: one of its bytes alone, of a page that would change what can't be changed, or of a range that
+-- isn't on the disk
+abbrev pub fault_of : {T : Type 0} → Result T ListFault → Option ListFault
+fault_of (Ok list) = None
 fault_of (Err fault) = Some fault
 
-abbrev pub fault_of_reserve_list : Result ResvList ListFault → Option ListFault
-fault_of_reserve_list (Ok list) = None
-fault_of_reserve_list (Err fault) = Some fault
-
--- the fault of a command's parameter list
-abbrev pub list_fault : ModePages → List ℕ → Op → Option ListFault
-list_fault pages out (op.ModeSelect form list) = fault_of (pages_behind pages (mode_list form list out))
-list_fault pages out (op.PersistentReserveOut asked size) = fault_of_reserve_list (reserve_list size out)
-list_fault pages out _ = None
+-- the fault of a command's parameter list, on a disk of so many blocks
+abbrev pub list_fault : ModePages → ℕ → List ℕ → Op → Option ListFault
+list_fault pages blocks out (op.ModeSelect form list) = fault_of (pages_behind pages (mode_list form list out))
+list_fault pages blocks out (op.PersistentReserveOut asked size) = fault_of (reserve_list size out)
+list_fault pages blocks out (op.Unmap list) = fault_of (unmap_list_of blocks (take list out))
+list_fault pages blocks out _ = None
 
 -- the control behind a list: all its pages count, and where it has one every other nexus is told of it
 abbrev pub with_pages : ControlState → Nexus → ModeList → Result ModePages ListFault → ControlState

@@ -38,8 +38,8 @@ action_fault state nexus out (op.PersistentReserveOut asked size) =
     fault_of_action state nexus asked (reserve_list size out)
 action_fault state nexus out _ = None
 
--- PREEMPT AND ABORT aborts the commands of the nexuses that it removes; where TAS is 0, they are told by a unit attention
--- (SPC-4, 5.12, preempting and aborting)
+-- PREEMPT AND ABORT aborts the commands of the nexuses that it removes; where TAS is 0, they are told by a unit
+-- attention (SPC-4, 5.12, preempting and aborting)
 abbrev pub aborted_by : ReserveOut → Done → List Bool
 aborted_by (action.PreemptAndAbort type) done = done.removed
 aborted_by _ done = no_nexuses

@@ -45,7 +45,7 @@ fn row_refusal(
         ∷ stopped c.now profile.now
         ∷ unsaved c.now op.now
         ∷ short_of_data c.now (length out.now) profile.now
-        ∷ faulty_list c.now out.now op.now
+        ∷ faulty_list c.now blocks out.now op.now
         ∷ out_of_range c.now blocks profile.now
         ∷ write_protected c.now profile.now
         ∷ faulty_action c.now nexus out.now op.now
@@ -64,7 +64,7 @@ fn row_refusal(
     if (out.len() as u64) < profile.data_out {
         return Some(check_condition(c, code::PARAMETER_LIST_LENGTH_ERROR, None));
     }
-    if let Some(fault) = list_fault(c.pages(), out, op) {
+    if let Some(fault) = list_fault(c.pages(), blocks, out, op) {
         return Some(check_condition(c, fault.sense_code(), None));
     }
     if !profile.ranges.are_inside(blocks) {
@@ -114,8 +114,8 @@ fn reported(c: &mut Control, command: &Command, profile: &Profile) -> Option<Ref
     Some(check_condition(c, sense_code(condition), None))
 }
 
-/// The first of the checks that refuses a command, on a disk of so many blocks; None where it may begin. A unit attention
-/// that is reported is taken.
+/// The first of the checks that refuses a command, on a disk of so many blocks; None where it may begin. A unit
+/// attention that is reported is taken.
 #[tactic(auto, unfolding(crate::specs::Executions::refusal_of, crate::specs::Executions::refused_control))]
 pub fn check(c: &mut Control, command: &Command, blocks: u32) -> Option<Refusal>
     ensures answer { refusal_of c.old blocks command.now ≡ option_map refused_reply result }
@@ -152,12 +152,4 @@ pub fn plan(command: &Command, blocks: u32) -> Plan
     ensures need { result.need ≡ need_in blocks command.now }
 {
     Plan::by(command.profile(blocks), command.out.len(), blocks)
-}
-
-/// How many blocks of the pool a command needs, on a disk of so many blocks.
-pub fn need(command: &Command, blocks: u32) -> u32
-    requires { blocks ≤ MOST_BLOCKS }
-    ensures { result ≡ need_in blocks command.now }
-{
-    plan(command, blocks).need()
 }

@@ -76,8 +76,8 @@ impl Control {
         self.pages
     }
 
-    /// Gives the mode pages the values of a list of a nexus, and tells the others of it. Nothing changes where a page is
-    /// refused.
+    /// Gives the mode pages the values of a list of a nexus, and tells the others of it. Nothing changes where a page
+    /// is refused.
     pub(crate) fn select(&mut self, nexus: Nexus, list: &ModeList)
         ensures { self.new ≡ with_pages self.old nexus list.now (selected_pages self.old.pages list.now) }
     {
@@ -132,8 +132,10 @@ impl Control {
     /// commands it aborts.
     #[tactic(auto, unfolding(crate::specs::Controls::tells_aborts))]
     pub(crate) fn reserve(&mut self, nexus: Nexus, action: ReserveOut, list: &ResvList) -> NexusSet
-        ensures changed { self.new ≡ after_action self.old action (after_out self.old.reservations nexus action list.now) }
-        ensures cleared { result ≡ cleared_by_answer action (after_out self.old.reservations nexus action list.now).answer }
+        ensures changed { self.new ≡
+            after_action self.old action (after_out self.old.reservations nexus action list.now) }
+        ensures cleared { result ≡
+            cleared_by_answer action (after_out self.old.reservations nexus action list.now).answer }
     {
         match self.reservations.out(nexus, action, list) {
             Ok(done) => {

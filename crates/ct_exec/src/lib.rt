@@ -14,7 +14,7 @@ mod refusal;
 mod tests;
 
 pub use at_once::instant;
-pub use checks::{check, need, plan};
+pub use checks::{check, plan};
 pub use control::Control;
 pub use ended::Instant;
 pub use refusal::{Refusal, check_condition, failed, miscompared, moved_reply};

@@ -7,7 +7,7 @@ ghost use Rattle.ct_exec.specs.Modes.{is_long, mode_list, fault_of, list_fault};
 use crate::action_faults::reserve_list;
 use ct_cdb::{Form, Op};
 use ct_pages::{ModePages, select_mode};
-use ct_param::{ListFault, ModeList, read_mode};
+use ct_param::{ListFault, ModeList, read_mode, read_unmap};
 
 /// The pages of the list in so many bytes of the data-out, or its first fault.
 pub(crate) fn mode_list(form: Form, size: u16, out: &[u8]) -> Result<ModeList, ListFault>
@@ -25,9 +25,9 @@ fn is_long(form: Form) -> bool
     }
 }
 
-/// The fault of a command's parameter list, where the mode pages have these values.
-pub(crate) fn list_fault(pages: ModePages, out: &[u8], op: &Op) -> Option<ListFault>
-    ensures { result ≡ list_fault pages out.now op.now }
+/// The fault of a command's parameter list, where the mode pages have these values, on a disk of so many blocks.
+pub(crate) fn list_fault(pages: ModePages, blocks: u32, out: &[u8], op: &Op) -> Option<ListFault>
+    ensures { result ≡ list_fault pages blocks out.now op.now }
 {
     match *op {
         Op::ModeSelect { form, list } => match mode_list(form, list, out) {
@@ -35,6 +35,10 @@ pub(crate) fn list_fault(pages: ModePages, out: &[u8], op: &Op) -> Option<ListFa
             Err(fault) => Some(fault),
         },
         Op::PersistentReserveOut { list, .. } => match reserve_list(list, out) {
+            Ok(_) => None,
+            Err(fault) => Some(fault),
+        },
+        Op::Unmap { list } => match read_unmap(&out[..out.len().min(usize::from(list))], blocks) {
             Ok(_) => None,
             Err(fault) => Some(fault),
         },

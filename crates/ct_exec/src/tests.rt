@@ -59,33 +59,41 @@ fn refused(alloc: Global, cdb: &[u8], out: &[u8], blocks: u32) -> Result<Option<
     Ok(code)
 }
 
+// A command with so many zeros of data-out, the blocks of the disk, and why it is refused.
+const REFUSALS: [(&[u8], usize, u32, Option<u8>); 12] = [
+    (b"", 0, 3, Some(0x20)),
+    // an unknown operation code
+    (b"\xff\0\0\0\0\0", 0, 3, Some(0x20)),
+    // SYNCHRONIZE CACHE of a range that leaves the disk
+    (b"\x35\0\0\0\0\x02\0\0\x02\0", 0, 3, Some(0x21)),
+    (b"\x35\0\0\0\0\x02\0\0\x02\0", 0, 4, None),
+    // READ without its last byte, and with a reserved bit
+    (b"\x28\0\0\0\0\x01\0\0\x02", 0, 3, Some(0x24)),
+    (b"\x28\x20\0\0\0\0\0\0\x02\0", 0, 3, Some(0x24)),
+    (WRITE, 1023, 2, Some(0x1a)),
+    (WRITE, 1024, 2, Some(0x21)),
+    (WRITE, 1024, 3, None),
+    (READ, 0, 2, Some(0x21)),
+    // MODE SENSE of saved values
+    (b"\x1a\0\xff\0\xff\0", 0, 3, Some(0x39)),
+    // MODE SELECT with too few bytes
+    (b"\x15\x10\0\0\x10\0", 15, 3, Some(0x1a)),
+];
+
 #[test]
 fn refuses(rt: HostRuntime) -> Result<(), Fail> {
     let alloc = rt.alloc();
-    assert_eq!(rt; refused(alloc, b"", &[], 3)?, Some(0x20));
-    // an unknown operation code, and a command that isn't built
-    assert_eq!(rt; refused(alloc, b"\xff\0\0\0\0\0", &[], 3)?, Some(0x20));
-    assert_eq!(rt;
-        refused(alloc, b"\x42\0\0\0\0\0\0\0\0\0", &[], 3)?,
-        Some(0x20)
-    );
-    // SYNCHRONIZE CACHE of a range that leaves the disk
-    let flush = b"\x35\0\0\0\0\x02\0\0\x02\0";
-    assert_eq!(rt; refused(alloc, flush, &[], 3)?, Some(0x21));
-    assert_eq!(rt; refused(alloc, flush, &[], 4)?, None);
-    assert_eq!(rt; refused(alloc, &READ[..9], &[], 3)?, Some(0x24));
-    assert_eq!(rt;
-        refused(alloc, b"\x28\x20\0\0\0\0\0\0\x02\0", &[], 3)?,
-        Some(0x24)
-    );
-    assert_eq!(rt; refused(alloc, WRITE, &[0; 1023], 2)?, Some(0x1a));
-    assert_eq!(rt; refused(alloc, WRITE, &[0; 1024], 2)?, Some(0x21));
-    assert_eq!(rt; refused(alloc, WRITE, &[0; 1024], 3)?, None);
-    assert_eq!(rt; refused(alloc, READ, &[], 2)?, Some(0x21));
-    // MODE SENSE of saved values, MODE SELECT with too few bytes and of a page that isn't there
-    assert_eq!(rt; refused(alloc, b"\x1a\0\xff\0\xff\0", &[], 3)?, Some(0x39));
+    let zeros = [0; 1024];
+    for (cdb, size, blocks, code) in REFUSALS {
+        let out = &zeros[..size.min(1024)];
+        assert_eq!(rt;
+            refused(alloc, cdb, out, blocks)?,
+            code,
+            "at {cdb:?} {size}"
+        );
+    }
+    // MODE SELECT of a page that isn't there
     let select = b"\x15\x10\0\0\x10\0";
-    assert_eq!(rt; refused(alloc, select, &[0; 15], 3)?, Some(0x1a));
     assert_eq!(rt; refused(alloc, select, &[0; 16], 3)?, Some(0x26));
     Ok(())
 }
@@ -151,25 +159,27 @@ fn reads_no_blocks(rt: HostRuntime) -> Result<(), Fail> {
     Ok(())
 }
 
+// A command, and the data that it returns of the unit.
+const UNIT_DATA: [(&[u8], &[u8]); 7] = [
+    (b"\0\0\0\0\0\0", b""),
+    (b"\x35\0\0\0\0\0\0\0\0\0", b""),
+    (b"\x03\x01\0\0\x12\0", b"\x72\0\0\0\0\0\0\0"),
+    (b"\x12\0\0\0\x04\0", b"\0\0\x06\x12"),
+    (
+        b"\xa0\0\0\0\0\0\0\0\0\xff\0\0",
+        b"\0\0\0\x08\0\0\0\0\0\0\0\0\0\0\0\0",
+    ),
+    (b"\x25\0\0\0\0\0\0\0\0\0", b"\0\0\0\x02\0\0\x02\0"),
+    (
+        b"\x9e\x10\0\0\0\0\0\0\0\0\0\0\0\x09\0\0",
+        b"\0\0\0\0\0\0\0\x02\0",
+    ),
+];
+
 #[test]
 fn tells_of_the_unit(rt: HostRuntime) -> Result<(), Fail> {
     let alloc = rt.alloc();
-    let cases: [(&[u8], &[u8]); 7] = [
-        (b"\0\0\0\0\0\0", b""),
-        (b"\x35\0\0\0\0\0\0\0\0\0", b""),
-        (b"\x03\x01\0\0\x12\0", b"\x72\0\0\0\0\0\0\0"),
-        (b"\x12\0\0\0\x04\0", b"\0\0\x06\x12"),
-        (
-            b"\xa0\0\0\0\0\0\0\0\0\xff\0\0",
-            b"\0\0\0\x08\0\0\0\0\0\0\0\0\0\0\0\0",
-        ),
-        (b"\x25\0\0\0\0\0\0\0\0\0", b"\0\0\0\x02\0\0\x02\0"),
-        (
-            b"\x9e\x10\0\0\0\0\0\0\0\0\0\0\0\x09\0\0",
-            b"\0\0\0\0\0\0\0\x02\0",
-        ),
-    ];
-    for (cdb, data) in cases {
+    for (cdb, data) in UNIT_DATA {
         let cmd = command(alloc, cdb, &[])?;
         let body = Reserve::open(alloc, room_for(cmd.command()))?;
         match at_once(alloc, cmd.command(), body)? {
@@ -187,14 +197,10 @@ fn tells_of_the_unit(rt: HostRuntime) -> Result<(), Fail> {
 fn plans_each_block(rt: HostRuntime) -> Result<(), Fail> {
     let alloc = rt.alloc();
     let cmd = command(alloc, READ, &[])?;
-    assert_eq!(rt;
-        (plan(cmd.command(), 3).length(), need(cmd.command(), 3)),
-        (2, 2)
-    );
-    assert_eq!(rt;
-        (plan(cmd.command(), 2).length(), need(cmd.command(), 2)),
-        (0, 0)
-    );
+    let whole = plan(cmd.command(), 3);
+    assert_eq!(rt; (whole.length(), whole.need()), (2, 2));
+    let none = plan(cmd.command(), 2);
+    assert_eq!(rt; (none.length(), none.need()), (0, 0));
     let cmd = command(alloc, b"", &[])?;
     assert_eq!(rt; plan(cmd.command(), 3).length(), 0);
     let body: Reserve<u8> = Reserve::open(alloc, 4)?;
@@ -203,43 +209,40 @@ fn plans_each_block(rt: HostRuntime) -> Result<(), Fail> {
     Ok(())
 }
 
-// How a command ended: its status, its additional sense code with its qualifier, and whose commands it cleared.
+// How a command ended.
 #[derive(Clone, Copy, Debug, PartialEq, Eq)]
-struct Ended {
-    status: Status,
-    code: (u8, u8),
-    cleared: NexusSet,
-}
-
-fn ending(status: Status, asc: u8, ascq: u8) -> Ended {
-    Ended {
-        status,
-        code: (asc, ascq),
-        cleared: NexusSet::open(),
-    }
-}
-
-fn good() -> Ended {
-    ending(Status::Good, 0, 0)
-}
-
-fn conflict() -> Ended {
-    ending(Status::ReservationConflict, 0, 0)
-}
-
-fn checked(asc: u8, ascq: u8) -> Ended {
-    ending(Status::CheckCondition, asc, ascq)
+enum Ended {
+    // GOOD, and no command is cleared
+    Good,
+    // GOOD, and the commands of initiator 3 are cleared
+    Clearing,
+    Conflict,
+    // CHECK CONDITION, with its additional sense code and the qualifier
+    Checked(u8, u8),
+    Otherwise,
 }
 
 fn why(refusal: Refusal) -> Ended {
-    match refusal.sense {
-        Some(sense) => ending(refusal.status, sense.asc, sense.ascq),
-        None => ending(refusal.status, 0, 0),
+    match (refusal.status, refusal.sense) {
+        (Status::ReservationConflict, None) => Ended::Conflict,
+        (Status::CheckCondition, Some(sense)) => Ended::Checked(sense.asc, sense.ascq),
+        _ => Ended::Otherwise,
     }
 }
 
-// Runs a command of an initiator on a disk of 3 blocks. One that moves blocks counts as GOOD. None where its data-in are
-// others.
+fn cleared(set: &NexusSet) -> Ended {
+    let mut third = NexusSet::open();
+    third.add(Nexus { port: 1, init: 3 });
+    if *set == third {
+        Ended::Clearing
+    } else if *set == NexusSet::open() {
+        Ended::Good
+    } else {
+        Ended::Otherwise
+    }
+}
+
+// Runs a command of an initiator on a disk of 3 blocks. One that moves blocks counts as GOOD.
 fn run(
     alloc: Global,
     control: &mut Control,
@@ -247,23 +250,21 @@ fn run(
     cdb: &[u8],
     out: &[u8],
     data: &[u8],
-) -> Result<Option<Ended>, Fail> {
+) -> Result<Ended, Fail> {
     let cmd = command_of(alloc, init, cdb, out)?;
     let body = Reserve::open(alloc, room_for(cmd.command()))?;
     if let Some(refusal) = check(control, cmd.command(), 3) {
-        return Ok(Some(why(refusal)));
+        return Ok(why(refusal));
     }
     if plan(cmd.command(), 3).length() != 0 {
-        return Ok(Some(good()));
+        return Ok(Ended::Good);
     }
     let done = instant(control, cmd.command(), body, 3);
-    if done.reply.body.as_slice() != data {
-        return Ok(None);
+    if done.reply.status == Status::Good && done.reply.body.as_slice() == data {
+        Ok(cleared(&done.cleared))
+    } else {
+        Ok(Ended::Otherwise)
     }
-    Ok(Some(Ended {
-        cleared: done.cleared,
-        ..ending(done.reply.status, 0, 0)
-    }))
 }
 
 // PERSISTENT RESERVE OUT of an action and a type, and its list.
@@ -278,73 +279,97 @@ fn keys(key: u8, service_key: u8) -> [u8; 24] {
     list
 }
 
+// What an initiator sends.
+#[derive(Clone, Copy, Debug)]
+enum Sent {
+    // a command without data
+    Alone(&'static [u8]),
+    Write,
+    // READ KEYS, which returns PRGENERATION 4 and the keys 7 and 8
+    ReadKeys,
+    // PERSISTENT RESERVE OUT of an action and a type, with a key and a service action key
+    Reserve(u8, u8, u8, u8),
+    // RELEASE of type 1, with these bytes as its list
+    Release(&'static [u8]),
+}
+
+const READ_KEYS: &[u8] = b"\x5e\0\0\0\0\0\0\x01\0\0";
+
+const BOTH_KEYS: &[u8] = b"\0\0\0\x04\0\0\0\x10\0\0\0\0\0\0\0\x07\0\0\0\0\0\0\0\x08";
+
+fn send(alloc: Global, control: &mut Control, init: u8, sent: Sent) -> Result<Ended, Fail> {
+    match sent {
+        Sent::Alone(cdb) => run(alloc, control, init, cdb, b"", b""),
+        Sent::Write => run(alloc, control, init, WRITE, &[0; 1024], b""),
+        Sent::ReadKeys => run(alloc, control, init, READ_KEYS, b"", BOTH_KEYS),
+        Sent::Reserve(action, kind, key, service_key) => {
+            let cdb = reserve_out(action, kind);
+            let list = keys(key, service_key);
+            run(alloc, control, init, &cdb, &list, b"")
+        }
+        Sent::Release(list) => run(alloc, control, init, &reserve_out(2, 1), list, b""),
+    }
+}
+
 const STOP: &[u8] = b"\x1b\0\0\0\0\0";
 
 const START: &[u8] = b"\x1b\0\0\0\x01\0";
+
+// A list with the key 7 and APTPL, and the same without its last byte.
+const APTPL: &[u8] = b"\0\0\0\0\0\0\0\x07\0\0\0\0\0\0\0\0\0\0\0\0\x01\0\0\0";
+
+const CUT: &[u8] = b"\0\0\0\0\0\0\0\x07\0\0\0\0\0\0\0\0\0\0\0\0\x01\0\0";
+
+const IN_ORDER: [(u8, Sent, Ended); 14] = [
+    (2, Sent::Reserve(0, 0, 0, 7), Ended::Good),
+    (2, Sent::Reserve(1, 1, 7, 0), Ended::Good),
+    (2, Sent::Alone(STOP), Ended::Good),
+    // the unit attention is told before the conflict, and the conflict before the stopped unit
+    (3, Sent::Write, Ended::Checked(0x29, 0x01)),
+    (3, Sent::Write, Ended::Conflict),
+    (2, Sent::Write, Ended::Checked(0x04, 0x02)),
+    (2, Sent::Alone(START), Ended::Good),
+    (2, Sent::Write, Ended::Good),
+    (3, Sent::Alone(READ), Ended::Good),
+    (3, Sent::Reserve(2, 1, 7, 0), Ended::Conflict),
+    (2, Sent::Reserve(2, 3, 7, 0), Ended::Checked(0x26, 0x04)),
+    (2, Sent::Release(APTPL), Ended::Checked(0x26, 0x00)),
+    (2, Sent::Release(CUT), Ended::Checked(0x1a, 0x00)),
+    (2, Sent::Reserve(4, 1, 7, 0), Ended::Checked(0x26, 0x00)),
+];
 
 #[test]
 fn checks_reservations_in_order(rt: HostRuntime) -> Result<(), Fail> {
     let alloc = rt.alloc();
     let mut control = ready(alloc)?;
-    let mut faulty = keys(7, 0);
-    faulty[20] = 1;
-    let steps: [(u8, &[u8], &[u8], Ended); 14] = [
-        (2, &reserve_out(0, 0), &keys(0, 7), good()),
-        (2, &reserve_out(1, 1), &keys(7, 0), good()),
-        (2, STOP, b"", good()),
-        // the unit attention is told before the conflict, and the conflict before the stopped unit
-        (3, WRITE, &[0; 1024], checked(0x29, 0x01)),
-        (3, WRITE, &[0; 1024], conflict()),
-        (2, WRITE, &[0; 1024], checked(0x04, 0x02)),
-        (2, START, b"", good()),
-        (2, WRITE, &[0; 1024], good()),
-        (3, READ, b"", good()),
-        (3, &reserve_out(2, 1), &keys(7, 0), conflict()),
-        (2, &reserve_out(2, 3), &keys(7, 0), checked(0x26, 0x04)),
-        (2, &reserve_out(2, 1), &faulty, checked(0x26, 0x00)),
-        (2, &reserve_out(2, 1), &faulty[..23], checked(0x1a, 0x00)),
-        (2, &reserve_out(4, 1), &keys(7, 0), checked(0x26, 0x00)),
-    ];
-    for (init, cdb, out, end) in steps {
-        assert_eq!(rt; run(alloc, &mut control, init, cdb, out, b"")?, Some(end));
+    for (init, sent, end) in IN_ORDER {
+        assert_eq!(rt; send(alloc, &mut control, init, sent)?, end, "at {sent:?}");
     }
     Ok(())
 }
+
+const PREEMPTING: [(u8, Sent, Ended); 12] = [
+    (3, Sent::Alone(TEST_UNIT_READY), Ended::Checked(0x29, 0x01)),
+    (2, Sent::Reserve(0, 0, 0, 7), Ended::Good),
+    (3, Sent::Reserve(0, 0, 0, 8), Ended::Good),
+    (3, Sent::Reserve(1, 5, 8, 0), Ended::Good),
+    (2, Sent::Reserve(5, 5, 7, 8), Ended::Clearing),
+    (3, Sent::Alone(TEST_UNIT_READY), Ended::Checked(0x2a, 0x05)),
+    (3, Sent::Alone(TEST_UNIT_READY), Ended::Checked(0x2f, 0x00)),
+    (3, Sent::Reserve(0, 0, 0, 8), Ended::Good),
+    (3, Sent::ReadKeys, Ended::Good),
+    // PREEMPT clears no command
+    (2, Sent::Reserve(4, 5, 7, 8), Ended::Good),
+    (3, Sent::Alone(TEST_UNIT_READY), Ended::Checked(0x2a, 0x05)),
+    (3, Sent::Alone(TEST_UNIT_READY), Ended::Good),
+];
 
 #[test]
 fn preempts_and_aborts(rt: HostRuntime) -> Result<(), Fail> {
     let alloc = rt.alloc();
     let mut control = ready(alloc)?;
-    let mut removed = NexusSet::open();
-    removed.add(Nexus { port: 1, init: 3 });
-    let aborting = Ended {
-        cleared: removed,
-        ..good()
-    };
-    let read_keys = b"\x5e\0\0\0\0\0\0\x01\0\0";
-    let steps: [(u8, &[u8], &[u8], &[u8], Ended); 12] = [
-        (3, TEST_UNIT_READY, b"", b"", checked(0x29, 0x01)),
-        (2, &reserve_out(0, 0), &keys(0, 7), b"", good()),
-        (3, &reserve_out(0, 0), &keys(0, 8), b"", good()),
-        (3, &reserve_out(1, 5), &keys(8, 0), b"", good()),
-        (2, &reserve_out(5, 5), &keys(7, 8), b"", aborting),
-        (3, TEST_UNIT_READY, b"", b"", checked(0x2a, 0x05)),
-        (3, TEST_UNIT_READY, b"", b"", checked(0x2f, 0x00)),
-        (3, &reserve_out(0, 0), &keys(0, 8), b"", good()),
-        (
-            3,
-            read_keys,
-            b"",
-            b"\0\0\0\x04\0\0\0\x10\0\0\0\0\0\0\0\x07\0\0\0\0\0\0\0\x08",
-            good(),
-        ),
-        // PREEMPT clears no command
-        (2, &reserve_out(4, 5), &keys(7, 8), b"", good()),
-        (3, TEST_UNIT_READY, b"", b"", checked(0x2a, 0x05)),
-        (3, TEST_UNIT_READY, b"", b"", good()),
-    ];
-    for (init, cdb, out, data, end) in steps {
-        assert_eq!(rt; run(alloc, &mut control, init, cdb, out, data)?, Some(end));
+    for (init, sent, end) in PREEMPTING {
+        assert_eq!(rt; send(alloc, &mut control, init, sent)?, end, "at {sent:?}");
     }
     Ok(())
 }

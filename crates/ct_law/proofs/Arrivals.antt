@@ -20,10 +20,23 @@ use Rattle.ct_machine.specs.declared.act.Act.TheVariants as act
 use Rattle.ct_machine.specs.declared.act.Answer.TheVariants as answer
 use Rattle.ct_machine.specs.declared.act.Opening.{Opening}
 use Rattle.ct_machine.specs.States.{Stage, Waiting, Here, Granted, There, Over, Task, Open, Message, Arrival, State, disk_of, arrival_of, task_of, function_of}
-use Rattle.ct_machine.specs.Events.{message, to_b_if, came_at_b, answered, entered, after_enter, staged, moved_from, moved_at, after_moved, leaves, executed_at_once, ended_at, after_ended, cut_at, after_cut, asked_for, after_asked, works_of, closed, came_to_a, begun_at_b, after_grant, came_to_b, after_deliver, after_event, after}
-use Rattle.ct_machine.specs.Acts.{Turn, nothing, writes, says, turned_cause, entering_with, entering, asking, open_numbers, Done, next_number, has_room_for, arriving_at, taking_in, coming_in, coming_to_a, coming_to, delivering_first, messages_to, delivering, next_step, stepping_next, doing_next, doing, act_of}
+use Rattle.ct_machine.specs.Events.Sends.{message, to_b_if, came_at_b, answered}
+use Rattle.ct_machine.specs.Events.Arrivals.{entered, after_enter}
+use Rattle.ct_machine.specs.Events.Moves.{staged, moved_from, moved_at, after_moved}
+use Rattle.ct_machine.specs.Events.Ends.{leaves, executed_at_once, ended_at, after_ended, cut_at, after_cut}
+use Rattle.ct_machine.specs.Events.Functions.{asked_for, after_asked, works_of, closed}
+use Rattle.ct_machine.specs.Events.Deliveries.{came_to_a, begun_at_b, after_grant, came_to_b, after_deliver}
+use Rattle.ct_machine.specs.Events.{after_event, after}
+use Rattle.ct_machine.specs.Acts.Turns.{Turn, nothing, writes, says}
+use Rattle.ct_machine.specs.Acts.Entries.{turned_cause, entering_with, entering}
+use Rattle.ct_machine.specs.Acts.Functions.{asking, open_numbers}
+use Rattle.ct_machine.specs.Acts.Answers.{Done}
+use Rattle.ct_machine.specs.Acts.Arrivals.{next_number, has_room_for, arriving_at}
+use Rattle.ct_machine.specs.Acts.Messages.{taking_in, coming_in, coming_to_a, coming_to, delivering_first, messages_to, delivering}
+use Rattle.ct_machine.specs.Acts.Next.{next_step, stepping_next, doing_next}
+use Rattle.ct_machine.specs.Acts.{doing, act_of}
 use Rattle.ct_machine.specs.Runs.{replay, IsRun}
-use Rattle.ct_machine.specs.Laws.{brought, room_without, Brings}
+use Rattle.ct_machine.specs.Laws.Works.{brought, room_without, Brings}
 use Rattle.ct_plan.proofs.Performing.{size_after_all}
 use Rattle.ct_law.proofs.Commands
 use Rattle.ct_law.proofs.Runs.{is_free, Turning, asks, closes_all, comes_to_b, steps, replay-act}

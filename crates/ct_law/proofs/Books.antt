@@ -6,7 +6,7 @@ use Rattle.ct_book.specs.declared.event.Event.TheVariants as event
 use Rattle.ct_book.specs.declared.event.Logged.{Logged}
 use Rattle.ct_book.specs.Journals.{numbered}
 use Rattle.ct_machine.specs.States.{Task, Stage, Waiting, Over, Message, Arrival, is_waiting, done_at, without_task, with_task, at_stage, queued}
-use Rattle.ct_machine.specs.Laws.{has, is_entry, is_begin, is_enter, made_at, made_by}
+use Rattle.ct_machine.specs.Laws.Journals.{has, is_entry, is_begin, is_enter, made_at, made_by}
 use Rattle.ct_law.proofs.Tasks.{Has, has_without, without_has, has_with, with_has, with_itself, has_queued, queued_has, queued_itself}
 use Rattle.ct_law.proofs.Journal.{has_more, has_stays, has_now, has_not, has_same, made_more, Quiet, Untouched, untouched_more, IsOf, quiet}
 use Rattle.ct_law.proofs.Growing.{numbered_front, numbered_within}

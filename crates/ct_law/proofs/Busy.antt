@@ -1,4 +1,4 @@
--- While no function is open, `Next` does something where it isn't idle.
+-- `Next` does something where it isn't idle, and where it is idle all is quiet.
 use Rattle.std.proofs.Common.{◌≡◌, ℕ, Bool, true, false, not, List, [], ◌∷◌, inl, inr, Option, Some, None, length, map, refl, sym, ap, ◌∙◌, subst, cond}
 use Rattle.std.specs.Prelude.{option_map, is_none}
 use Rattle.std.specs.List.{find, list_any}
@@ -14,14 +14,21 @@ use Rattle.ct_machine.specs.declared.act.Answer.{Answer}
 use Rattle.ct_machine.specs.declared.act.Answer.TheVariants as answer
 use Rattle.ct_machine.specs.declared.act.Opening.{Opening}
 use Rattle.ct_machine.specs.States.{Stage, Waiting, Here, Granted, There, Over, Task, Message, State, opened, arrival_of, task_of, is_waiting, is_moving, has_begun, held_of, task_set_of}
-use Rattle.ct_machine.specs.Acts.{next_step, ends, line_by, moved_answer, first_some, blocked_by, beginning_unless, stepping_at, stepping, delivering_first, messages_to, delivering, first_moving, stepping_next, doing_next, act_of}
+use Rattle.ct_machine.specs.Acts.Next.{next_step, first_moving, stepping_next, doing_next}
+use Rattle.ct_machine.specs.Acts.Answers.{ends, line_by, moved_answer, first_some}
+use Rattle.ct_machine.specs.Acts.Steps.{blocked_by, beginning_unless, stepping_at, stepping}
+use Rattle.ct_machine.specs.Acts.Messages.{delivering_first, messages_to, delivering}
+use Rattle.ct_machine.specs.Acts.{act_of}
 use Rattle.ct_machine.specs.Runs.{replay, IsRun}
-use Rattle.ct_machine.specs.Laws.{is_void}
+use Rattle.ct_machine.specs.Laws.Once.{IsQuiet}
+use Rattle.ct_machine.specs.Laws.Live.{is_void}
 use Rattle.ct_law.proofs.Tasks.{Has}
 use Rattle.ct_law.proofs.Held.{IsSingle}
 use Rattle.ct_law.proofs.Turns.{found_of}
 use Rattle.ct_law.proofs.Sends.{fine_single}
-use Rattle.ct_law.proofs.Live.{fine_run, steps_busy, delivers_busy}
+use Rattle.ct_law.proofs.Commands.{laws}
+use Rattle.ct_law.proofs.Awaits.{none_waits}
+use Rattle.ct_law.proofs.Live.{fine_run, no_step, steps_busy, delivers_busy}
 
 -- something was done, or there is nothing to do
 abbrev IsBusy : Answer → Type 0
@@ -91,9 +98,9 @@ next_ready s number e = go (find (is_ready (task_set_of s)) (map (held_of (lengt
         let b = and_parts (not (held_of (length s.blocks) r.0).held.begun) _ ready in
         (r.0, r.1, ap (λ (d : HeldCommand). d.no) r.2 ∙ same_Some _ _ k, waits r.0.stage b.0, none _ b.1)
 
-pub next_is_busy : (o : Opening) (journal : List Logged) → IsRun o journal → (replay o journal).functions ≡ [] → (count : ℕ) (fault : Option ℕ) → is_void (act_of (replay o journal) (act.Next count) fault).answer ≡ true → (act_of (replay o journal) (act.Next count) fault).answer ≡ answer.Idle
+pub next_is_busy : (o : Opening) (journal : List Logged) → IsRun o journal → (count : ℕ) (fault : Option ℕ) → is_void (act_of (replay o journal) (act.Next count) fault).answer ≡ true → (act_of (replay o journal) (act.Next count) fault).answer ≡ answer.Idle
 unfolding act_of
-next_is_busy o journal run closed count fault = go s.to_a s.to_b refl refl
+next_is_busy o journal run count fault = go s.to_a s.to_b refl refl
   where
     s : State
     s = replay o journal
@@ -104,8 +111,8 @@ next_is_busy o journal run closed count fault = go s.to_a s.to_b refl refl
     delivers : (node : Node) (m : Message) (ms : List Message) → messages_to node s ≡ m ∷ ms → IsBusy (delivering node s).answer
     delivers node m ms e = subst (λ l. IsBusy (delivering_first node l s).answer) (sym e) (λ h. absurd (cc))
 
-    ready : (found : Option ℕ) → next_ready_of (task_set_of s) ≡ found → IsBusy (stepping_next (first_some found (first_moving s.tasks)) count fault s).answer
-    ready (Some number) e h =
+    ready : s.functions ≡ [] → (found : Option ℕ) → next_ready_of (task_set_of s) ≡ found → IsBusy (stepping_next (first_some found (first_moving s.tasks)) count fault s).answer
+    ready closed (Some number) e h =
         let r = next_ready s number e in
         step_busy s r.0 number count fault single r.1 r.2 (waiting_at r.0 r.3 r.4) h
       where
@@ -118,7 +125,7 @@ next_is_busy o journal run closed count fault = go s.to_a s.to_b refl refl
             by Granted w = absurd (cc)
             by (There done got) w = absurd (cc)
             by Over w = absurd (cc)
-    ready None e h = moving (first_moving s.tasks) refl h
+    ready closed None e h = moving (first_moving s.tasks) refl h
       where
         moving : (found : Option ℕ) → first_moving s.tasks ≡ found → IsBusy (stepping_next found count fault s).answer
         moving None k h = refl
@@ -127,7 +134,7 @@ next_is_busy o journal run closed count fault = go s.to_a s.to_b refl refl
     go : (to_a to_b : List Message) → s.to_a ≡ to_a → s.to_b ≡ to_b → IsBusy (doing_next to_a to_b count fault s).answer
     go (m ∷ ms) to_b a b = delivers A m ms a
     go [] (m ∷ ms) a b = delivers B m ms b
-    go [] [] a b = ready (next_ready_of (task_set_of s)) refl
+    go [] [] a b = ready (none_waits laws o journal run a b) (next_ready_of (task_set_of s)) refl
 
 pub idle_is_silent : (o : Opening) (journal : List Logged) (count : ℕ) (fault : Option ℕ) → (act_of (replay o journal) (act.Next count) fault).answer ≡ answer.Idle → (act_of (replay o journal) (act.Next count) fault).journal ≡ []
 unfolding act_of
@@ -144,3 +151,25 @@ idle_is_silent o journal count fault = go s.to_a s.to_b refl refl
     go (m ∷ ms) to_b a b e = absurd (delivers_busy A s e)
     go [] (m ∷ ms) a b e = absurd (delivers_busy B s e)
     go [] [] a b e = next (next_step s) e
+
+-- where `Next` is idle, all is quiet
+pub idle_is_quiet : (o : Opening) (journal : List Logged) → IsRun o journal → (count : ℕ) (fault : Option ℕ) → (act_of (replay o journal) (act.Next count) fault).answer ≡ answer.Idle → IsQuiet (replay o journal)
+unfolding act_of
+idle_is_quiet o journal run count fault = go s.to_a s.to_b refl refl
+  where
+    s : State
+    s = replay o journal
+
+    next : s.to_a ≡ [] → s.to_b ≡ [] → (found : Option ℕ) → next_step s ≡ found → (stepping_next found count fault s).answer ≡ answer.Idle → IsQuiet s
+    next a b None k e = record {
+      tasks = no_step (length (opened o).blocks) s s.tasks refl (fine_run o journal run) a b k;
+      functions = none_waits laws o journal run a b;
+      to_a = a;
+      to_b = b;
+    }
+    next a b (Some number) k e = absurd (steps_busy (task_of number s.tasks) number count fault s e)
+
+    go : (to_a to_b : List Message) → s.to_a ≡ to_a → s.to_b ≡ to_b → (doing_next to_a to_b count fault s).answer ≡ answer.Idle → IsQuiet s
+    go (m ∷ ms) to_b a b e = absurd (delivers_busy A s e)
+    go [] (m ∷ ms) a b e = absurd (delivers_busy B s e)
+    go [] [] a b e = next a b (next_step s) refl e

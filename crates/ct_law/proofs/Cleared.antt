@@ -5,7 +5,9 @@ use Rattle.std.proofs.lemmas.Bool.{and_parts, eqb-false}
 use Rattle.ct_book.specs.declared.event.Event.TheVariants as event
 use Rattle.ct_book.specs.declared.event.Why.TheVariants.{By}
 use Rattle.ct_machine.specs.States.{Stage, Waiting, Here, Granted, There, Over, Task, State, is_waiting, is_b, task_of, without_task}
-use Rattle.ct_machine.specs.Events.{after, after_cut, cut_at, noted, is_cleared, stops_with, stop}
+use Rattle.ct_machine.specs.Events.{after}
+use Rattle.ct_machine.specs.Events.Ends.{after_cut, cut_at, noted, is_cleared, stops_with}
+use Rattle.ct_machine.specs.Events.Sends.{stop}
 use Rattle.ct_law.proofs.Tasks.{Has}
 use Rattle.ct_law.proofs.Sends.{one_if, in_tasks, has_in}
 use Rattle.ct_law.proofs.Inv.{told}

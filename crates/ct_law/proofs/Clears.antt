@@ -12,10 +12,15 @@ use Rattle.ct_book.specs.Journals.{numbered}
 use Rattle.ct_exec.specs.Controls.{tells_aborts}
 use Rattle.ct_machine.specs.declared.act.Opening.{Opening}
 use Rattle.ct_machine.specs.States.{Task, State, Waiting, Message, Open, is_waiting, is_b, task_of, without_task}
-use Rattle.ct_machine.specs.Events.{after, is_cleared, noted, stop, stops_with}
-use Rattle.ct_machine.specs.Acts.{Turn, nothing, says, clearing, clearing_all, numbers_of}
+use Rattle.ct_machine.specs.Events.{after}
+use Rattle.ct_machine.specs.Events.Ends.{is_cleared, noted, stops_with}
+use Rattle.ct_machine.specs.Events.Sends.{stop}
+use Rattle.ct_machine.specs.Acts.Turns.{Turn, nothing, says}
+use Rattle.ct_machine.specs.Acts.Begins.{clearing, clearing_all}
+use Rattle.ct_machine.specs.Acts.Functions.{numbers_of}
 use Rattle.ct_machine.specs.Runs.{replay}
-use Rattle.ct_machine.specs.Laws.{Each, has, is_entry, is_enter, IsCommandOf, Due, is_of, due_of, IsTimelyAt}
+use Rattle.ct_machine.specs.Laws.Journals.{Each, has, is_entry, is_enter, IsCommandOf}
+use Rattle.ct_machine.specs.Laws.Timely.{Due, is_of, due_of, IsTimelyAt}
 use Rattle.ct_law.proofs.Tasks.{Has, has_found, has_without}
 use Rattle.ct_law.proofs.Journal.{each_more, has_now, has_stays}
 use Rattle.ct_law.proofs.Growing.{due-more, works_in-none}

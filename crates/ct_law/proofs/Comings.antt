@@ -13,9 +13,11 @@ use Rattle.ct_book.specs.declared.event.Logged.{Logged}
 use Rattle.ct_book.specs.Journals.{KeptWork, numbered, arrived}
 use Rattle.ct_machine.specs.declared.act.Opening.{Opening}
 use Rattle.ct_machine.specs.States.{Task, Stage, Waiting, Here, Granted, There, Over, Message, Arrival, State, arrival_of, is_waiting, done_at, without_task, with_task, at_stage}
-use Rattle.ct_machine.specs.Events.{message, over_at_b}
+use Rattle.ct_machine.specs.Events.Sends.{message}
+use Rattle.ct_machine.specs.Events.Ends.{over_at_b}
 use Rattle.ct_machine.specs.Serial.{serial_disk}
-use Rattle.ct_machine.specs.Laws.{has, is_entry, is_enter, is_asked, beside}
+use Rattle.ct_machine.specs.Laws.Journals.{has, is_entry, is_enter, is_asked}
+use Rattle.ct_machine.specs.Laws.Cells.{beside}
 use Rattle.ct_law.proofs.Tasks.{Has, has_with}
 use Rattle.ct_law.proofs.Held.{is_active}
 use Rattle.ct_law.proofs.Journal.{each_more, has_same, has_now, has_stays, quiet, Untouched, untouched_more}
@@ -27,8 +29,10 @@ use Rattle.ct_law.proofs.Opens.{HasOpen, opens_event, opens_a, opens_b}
 use Rattle.ct_law.proofs.Inv.{LawfulAt, Gained, Inv, got_at, told, serial-same, cells_quiet}
 use Rattle.ct_machine.specs.declared.act.Answer.TheVariants as answer
 use Rattle.ct_machine.specs.States.{task_of}
-use Rattle.ct_machine.specs.Events.{after, after_cut, cut_at as cut_from}
-use Rattle.ct_machine.specs.Acts.{Turn, nothing, writes, says, Done}
+use Rattle.ct_machine.specs.Events.{after}
+use Rattle.ct_machine.specs.Events.Ends.{after_cut, cut_at as cut_from}
+use Rattle.ct_machine.specs.Acts.Turns.{Turn, nothing, writes, says}
+use Rattle.ct_machine.specs.Acts.Answers.{Done}
 use Rattle.ct_law.proofs.Tasks.{has_found}
 use Rattle.ct_law.proofs.Laws.{Laws}
 use Rattle.ct_law.proofs.Ends.{puts_at}
@@ -38,12 +42,19 @@ use Rattle.ct_machine.specs.declared.act.Act.{Act}
 use Rattle.ct_machine.specs.declared.act.Act.TheVariants as act
 use Rattle.ct_machine.specs.States.{opened}
 use Rattle.ct_machine.specs.Runs.{replay, IsRun}
-use Rattle.ct_machine.specs.Events.{kind_of, is_over as gone_at_b, awaits_no_more, after_grant as grant_to, begun_at_b, noted}
+use Rattle.ct_machine.specs.Events.Arrivals.{kind_of}
+use Rattle.ct_machine.specs.Events.Deliveries.{is_over as gone_at_b, awaits_no_more, after_grant as grant_to, begun_at_b}
+use Rattle.ct_machine.specs.Events.Ends.{noted}
 use Rattle.ct_law.proofs.Ends.{puts_at}
 use Rattle.ct_law.proofs.Runs.{run_induction}
 use Rattle.ct_exec.specs.Controls.{opening_disk}
 use Rattle.std.proofs.lemmas.Option.{same_Some}
-use Rattle.ct_machine.specs.Acts.{entering, asking, next_number, has_room_for, arriving_at, arriving, taking_in, coming_in, coming_to_a, stopping_at, stopping, coming_to_b, coming_to, delivering_first, messages_to, delivering, next_step, stepping_next, doing_next, doing, closing_all, open_numbers, puts_of}
+use Rattle.ct_machine.specs.Acts.Entries.{entering}
+use Rattle.ct_machine.specs.Acts.Functions.{asking, closing_all, open_numbers, puts_of}
+use Rattle.ct_machine.specs.Acts.Arrivals.{next_number, has_room_for, arriving_at, arriving}
+use Rattle.ct_machine.specs.Acts.Messages.{taking_in, coming_in, coming_to_a, stopping_at, stopping, coming_to_b, coming_to, delivering_first, messages_to, delivering}
+use Rattle.ct_machine.specs.Acts.Next.{next_step, stepping_next, doing_next}
+use Rattle.ct_machine.specs.Acts.{doing}
 use Rattle.ct_law.proofs.Books.{books_pop, books_quietly}
 use Rattle.ct_law.proofs.Opens.{is_remote, opens_no_longer}
 use Rattle.ct_law.proofs.Held.{opened_rules, opened_held, opened_size}
@@ -57,7 +68,7 @@ use Rattle.ct_law.proofs.Sends.{in_tasks, IsFine, fine_act, fine_opened}
 use Rattle.ct_law.proofs.Schedules.{Worked, worked_without, worked_with, untimed, untimed_by}
 use Rattle.ct_law.proofs.Turns.{found_of, step_so}
 use Rattle.std.proofs.Common.{◌≤◌, length}
-use Rattle.ct_machine.specs.Laws.{due_of}
+use Rattle.ct_machine.specs.Laws.Timely.{due_of}
 
 -- Arrivals
 
@@ -306,7 +317,7 @@ comes_to_a laws o s journal m ms to h = then_so NoneDue o journal first (coming_
 
 -- To B
 
-abbrev is_grant_kind : Kind2 → Bool
+abbrev pub is_grant_kind : Kind2 → Bool
 is_grant_kind kind.Grant = true
 is_grant_kind kind.Ask = false
 is_grant_kind kind.Function = false
@@ -316,7 +327,7 @@ is_grant_kind kind.Stop = false
 is_grant_kind kind.Reply = false
 is_grant_kind kind.Response = false
 
-after_b : (k : Kind2) (n : ℕ) (m : Message) (ms : List Message) (s : State) → is_grant_kind k ≡ false → s.to_b ≡ m ∷ ms → after s (told (event.Deliver B k n)) ≡ record s { to_b = ms }
+pub after_b : (k : Kind2) (n : ℕ) (m : Message) (ms : List Message) (s : State) → is_grant_kind k ≡ false → s.to_b ≡ m ∷ ms → after s (told (event.Deliver B k n)) ≡ record s { to_b = ms }
 unfolding after
 after_b kind.Grant n m ms s no_grant e = absurd (cc)
 after_b kind.Ask n m ms s no_grant e = ap (λ l. record s { to_b = drop 1 l }) e
@@ -353,7 +364,7 @@ granted_so P o s journal x hx st h = record {
   holds = λ r. granted_held o.blocks (serial_disk o journal) s.blocks s.tasks x (h.holds r) h.rules.single hx st;
 }
 
-after_grant : (n : ℕ) (m : Message) (ms : List Message) (x : Task) (s : State) → s.to_b ≡ m ∷ ms → task_of n s.tasks ≡ Some x → x.stage ≡ Granted → after s (told (event.Deliver B kind.Grant n)) ≡ record s { to_b = ms; tasks = with_task (at_stage (There 0 []) x) s.tasks }
+pub after_grant : (n : ℕ) (m : Message) (ms : List Message) (x : Task) (s : State) → s.to_b ≡ m ∷ ms → task_of n s.tasks ≡ Some x → x.stage ≡ Granted → after s (told (event.Deliver B kind.Grant n)) ≡ record s { to_b = ms; tasks = with_task (at_stage (There 0 []) x) s.tasks }
 unfolding after
 after_grant n m ms x s e f st =
     ap (λ l. grant_to (task_of n s.tasks) (record s { to_b = drop 1 l })) e
@@ -361,7 +372,7 @@ after_grant n m ms x s e f st =
     ∙ ap (λ stage. begun_at_b stage x (record s { to_b = ms })) st
 
 -- no command stands at its grant
-after_no_grant : (n : ℕ) (m : Message) (ms : List Message) (s : State) → s.to_b ≡ m ∷ ms → ((x : Task) → task_of n s.tasks ≡ Some x → x.stage ≡ Granted → ⊥) → after s (told (event.Deliver B kind.Grant n)) ≡ record s { to_b = ms }
+pub after_no_grant : (n : ℕ) (m : Message) (ms : List Message) (s : State) → s.to_b ≡ m ∷ ms → ((x : Task) → task_of n s.tasks ≡ Some x → x.stage ≡ Granted → ⊥) → after s (told (event.Deliver B kind.Grant n)) ≡ record s { to_b = ms }
 unfolding after
 after_no_grant n m ms s e none = ap (λ l. grant_to (task_of n s.tasks) (record s { to_b = drop 1 l })) e ∙ go (task_of n s.tasks) refl
   where

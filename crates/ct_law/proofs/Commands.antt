@@ -228,12 +228,12 @@ spared_stopped before after profile allows none =
     (check_condition before INITIALIZING_COMMAND_REQUIRED None)
     (check_condition after INITIALIZING_COMMAND_REQUIRED None) none)
 
-spared_list : (before after : ControlState) (out : List ℕ) (o : Op) → Allows before after
-    → faulty_list before out o ≡ None → faulty_list after out o ≡ None
-spared_list before after out o allows none =
+spared_list : (before after : ControlState) (n : ℕ) (out : List ℕ) (o : Op) → Allows before after
+    → faulty_list before n out o ≡ None → faulty_list after n out o ≡ None
+spared_list before after n out o allows none =
     subst (λ (pages : ModePages).
     option_map (λ (fault : ListFault). check_condition after (sense_code_of_fault fault) None)
-    (list_fault pages out o) ≡ None) (sym allows.pages) (go (list_fault before.pages out o) none)
+    (list_fault pages n out o) ≡ None) (sym allows.pages) (go (list_fault before.pages n out o) none)
   where
     go : (fault : Option ListFault)
         → option_map (λ (fault : ListFault). check_condition before (sense_code_of_fault fault) None) fault ≡ None
@@ -274,7 +274,7 @@ spared_by before after n nexus out (Ok cdb) profile allows none =
     let ready = first_parts (stopped before profile) _ let_through.1 in
     let current = first_parts (unsaved before cdb.op) _ ready.1 in
     let long = first_parts (short_of_data before (length out) profile) _ current.1 in
-    let listed = first_parts (faulty_list before out cdb.op) _ long.1 in
+    let listed = first_parts (faulty_list before n out cdb.op) _ long.1 in
     let inside = first_parts (out_of_range before n profile) _ listed.1 in
     let free = first_parts (write_protected before profile) _ inside.1 in
     let accepted = first_parts (faulty_action before nexus out cdb.op) _ free.1 in
@@ -290,7 +290,7 @@ spared_by before after n nexus out (Ok cdb) profile allows none =
     (first_none _ _
     (spared_if (nat_lt (length out) profile.data_out) (check_condition before PARAMETER_LIST_LENGTH_ERROR None)
     (check_condition after PARAMETER_LIST_LENGTH_ERROR None) long.0)
-    (first_none _ _ (spared_list before after out cdb.op allows listed.0)
+    (first_none _ _ (spared_list before after n out cdb.op allows listed.0)
     (first_none _ _
     (spared_unless (list_all (is_inside n) profile.ranges) (check_condition before LBA_OUT_OF_RANGE None)
     (check_condition after LBA_OUT_OF_RANGE None) inside.0)

@@ -21,10 +21,20 @@ use Rattle.ct_book.specs.declared.event.Logged.{Logged}
 use Rattle.ct_book.specs.Journals.{KeptWork, numbered, arrived}
 use Rattle.ct_machine.specs.declared.act.Opening.{Opening}
 use Rattle.ct_machine.specs.States.{Task, Stage, Waiting, Here, Granted, There, Over, Open, Message, Arrival, State, opened, arrival_of, task_of, function_of}
-use Rattle.ct_machine.specs.Events.{message, answered, to_b_if, came_at_b, after, staged, moved_at, after_moved, ended_at, after_ended, cut_at, after_cut, noted, closed, without_function, with_function, asked_for, after_asked, awaits_no_more, awaited_by, after_enter, entered, after_grant, begun_at_b, kind_of}
-use Rattle.ct_machine.specs.Acts.{Turn, nothing, writes, says, followed, turned_cause, entering_with, entering, numbers_of, cutting_all, closing, open_numbers, taking_up, asking, next_number, arriving_at, taking_in, coming_in, coming_to_a, coming_to_b, delivering_first, messages_to}
+use Rattle.ct_machine.specs.Events.Sends.{message, answered, to_b_if, came_at_b}
+use Rattle.ct_machine.specs.Events.{after}
+use Rattle.ct_machine.specs.Events.Moves.{staged, moved_at, after_moved}
+use Rattle.ct_machine.specs.Events.Ends.{ended_at, after_ended, cut_at, after_cut, noted}
+use Rattle.ct_machine.specs.Events.Functions.{closed, without_function, with_function, asked_for, after_asked, awaited_by}
+use Rattle.ct_machine.specs.Events.Deliveries.{awaits_no_more, after_grant, begun_at_b}
+use Rattle.ct_machine.specs.Events.Arrivals.{after_enter, entered, kind_of}
+use Rattle.ct_machine.specs.Acts.Turns.{Turn, nothing, writes, says, followed}
+use Rattle.ct_machine.specs.Acts.Entries.{turned_cause, entering_with, entering}
+use Rattle.ct_machine.specs.Acts.Functions.{numbers_of, cutting_all, closing, open_numbers, taking_up, asking}
+use Rattle.ct_machine.specs.Acts.Arrivals.{next_number, arriving_at}
+use Rattle.ct_machine.specs.Acts.Messages.{taking_in, coming_in, coming_to_a, coming_to_b, delivering_first, messages_to}
 use Rattle.ct_machine.specs.Runs.{replay, IsRun}
-use Rattle.ct_machine.specs.Laws.{has, is_entry, is_enter}
+use Rattle.ct_machine.specs.Laws.Journals.{has, is_entry, is_enter}
 use Rattle.ct_law.proofs.Inv.{told, replied}
 use Rattle.ct_law.proofs.Journal.{has_stays, has_now}
 use Rattle.ct_law.proofs.Growing.{numbered_older, numbered_last}

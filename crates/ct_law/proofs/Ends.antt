@@ -9,9 +9,9 @@ use Rattle.ct_book.specs.declared.work.Command.{Command}
 use Rattle.ct_exec.specs.Controls.{ControlState, Disk}
 use Rattle.ct_exec.specs.Executions.{Execution, execute, refusal_of, plan_in, reply_moved}
 use Rattle.ct_machine.specs.States.{Task, State, Stage, Waiting, Here, Granted, There, Over, with_task, at_stage, is_waiting, has_begun, done_at, held_of, held_by}
-use Rattle.ct_machine.specs.Events.{further, moved_from}
+use Rattle.ct_machine.specs.Events.Moves.{further, moved_from}
 use Rattle.ct_machine.specs.Serial.{first_puts, cut_disk}
-use Rattle.ct_machine.specs.Laws.{goes_first}
+use Rattle.ct_machine.specs.Laws.Orderly.{goes_first}
 use Rattle.ct_law.proofs.Tasks.{Has, precedes}
 use Rattle.ct_plan.proofs.Performing.{performed-all, size_after_all}
 use Rattle.ct_law.proofs.Blocks.{cell, puts, start, Like, perform_size, perform_elsewhere, unused_put, puts_front}

@@ -10,9 +10,10 @@ use Rattle.ct_book.specs.declared.event.Logged.{Logged}
 use Rattle.ct_exec.specs.Controls.{ControlState}
 use Rattle.ct_machine.specs.declared.act.Opening.{Opening}
 use Rattle.ct_machine.specs.States.{Task, Stage, Waiting, Here, Granted, There, Over, Open, Message, Arrival, State, without_task, with_task, at_stage}
-use Rattle.ct_machine.specs.Events.{message}
+use Rattle.ct_machine.specs.Events.Sends.{message}
 use Rattle.ct_machine.specs.Serial.{disk_after, serial_disk}
-use Rattle.ct_machine.specs.Laws.{has, is_entry, is_enter, IsRestricted}
+use Rattle.ct_machine.specs.Laws.Journals.{has, is_entry, is_enter}
+use Rattle.ct_machine.specs.Laws.Legal.{IsRestricted}
 use Rattle.ct_law.proofs.Tasks.{Has, has_without, has_with}
 use Rattle.ct_law.proofs.Changed.{without_with}
 use Rattle.ct_law.proofs.Held.{Rules, Holds, is_active, rules_removes, removes}
@@ -24,7 +25,7 @@ use Rattle.ct_law.proofs.Orders.{orders_event, orders_turns, orders_removes}
 use Rattle.ct_law.proofs.Opens.{Opens, HasOpen, WasActive, Begins, opens_event, opens_queue, opens_a}
 use Rattle.ct_law.proofs.Inv.{LawfulAt, Frame, Others, Inv, replied, is_move, restricted_before, serial-same}
 use Rattle.ct_law.proofs.Inv.{cells_event, cells_quiet}
-use Rattle.ct_machine.specs.Laws.{IsTurnedFor}
+use Rattle.ct_machine.specs.Laws.Legal.{IsTurnedFor}
 use Rattle.ct_law.proofs.Steps.{rules_same, holds_same}
 
 -- a command is refused at its arrival

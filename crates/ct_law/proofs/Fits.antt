@@ -24,23 +24,37 @@ use Rattle.ct_book.specs.declared.event.Logged.{Logged}
 use Rattle.ct_book.specs.Journals.{KeptWork, numbered}
 use Rattle.ct_exec.specs.Controls.{tells_aborts}
 use Rattle.ct_exec.specs.Executions.{Execution, execute, refusal_of, plan_in, reply_failed}
+use Rattle.ct_book.specs.Kept.{events_for}
 use Rattle.ct_machine.specs.declared.act.Act.{Act}
 use Rattle.ct_machine.specs.declared.act.Act.TheVariants as act
 use Rattle.ct_machine.specs.declared.act.Answer.TheVariants as answer
 use Rattle.ct_machine.specs.declared.act.Opening.{Opening}
 use Rattle.ct_machine.specs.States.{Stage, Waiting, Here, Granted, There, Over, Task, Open, Message, Arrival, State, opened, disk_of, arrival_of, task_of, function_of, is_here, is_moving, without_task, with_task, at_stage}
-use Rattle.ct_machine.specs.Events.{executed_at_once, is_cleared, ended_at, message, staged, cells_after, further, moved_from, moved_at, after_moved, after_ended, cut_at, after_cut, is_hit, is_told, taken_up, awaits_no_more, came_to_a, after_grant, came_to_b, after_came, after_enter, asked_for, after_asked, after_event, after}
+use Rattle.ct_machine.specs.Events.Ends.{executed_at_once, is_cleared, ended_at, after_ended, cut_at, after_cut}
+use Rattle.ct_machine.specs.Events.Sends.{message}
+use Rattle.ct_machine.specs.Events.Moves.{staged, cells_after, further, moved_from, moved_at, after_moved}
+use Rattle.ct_machine.specs.Events.Functions.{is_hit, is_told, taken_up, asked_for, after_asked}
+use Rattle.ct_machine.specs.Events.Deliveries.{awaits_no_more, came_to_a, after_grant, came_to_b}
+use Rattle.ct_machine.specs.Events.Arrivals.{after_came, after_enter}
+use Rattle.ct_machine.specs.Events.{after_event, after}
 use Rattle.ct_plan.specs.Pieces.{tried}
-use Rattle.ct_machine.specs.Acts.{Turn, nothing, writes, says, replies, followed, turned_cause, entering_with}
-use Rattle.ct_machine.specs.Acts.{outcome_of, puts_of, cutting, numbers_of, cutting_all, closing_if, closing}
-use Rattle.ct_machine.specs.Acts.{open_numbers, closing_all, taking_up, asking, moving_on, failing, failing_if}
-use Rattle.ct_machine.specs.Acts.{moved_to, moving_from, clearing, clearing_all, ending_at_once, is_granted, beginning_at}
-use Rattle.ct_machine.specs.Acts.{beginning, Done, next_number, has_room_for, arriving_at, arriving, blocked_by}
-use Rattle.ct_machine.specs.Acts.{beginning_unless, stepping_at, is_sent, stepping, taking_in, coming_in, coming_to_a}
-use Rattle.ct_machine.specs.Acts.{stopping_at, stopping, coming_to_b, delivering_first, messages_to, delivering}
-use Rattle.ct_machine.specs.Acts.{next_step, stepping_next, doing_next, doing}
+use Rattle.ct_machine.specs.Acts.Turns.{Turn, nothing, writes, says, replies, followed}
+use Rattle.ct_machine.specs.Acts.Entries.{turned_cause, entering_with}
+use Rattle.ct_machine.specs.Acts.Functions.{outcome_of, puts_of, cutting, numbers_of, cutting_all, closing_if, closing}
+use Rattle.ct_machine.specs.Acts.Functions.{open_numbers, closing_all, taking_up, asking}
+use Rattle.ct_machine.specs.Acts.Moves.{moving_on, failing, failing_if}
+use Rattle.ct_machine.specs.Acts.Moves.{moved_to, moving_from}
+use Rattle.ct_machine.specs.Acts.Begins.{clearing, clearing_all, ending_at_once, is_granted, beginning_at}
+use Rattle.ct_machine.specs.Acts.Begins.{beginning}
+use Rattle.ct_machine.specs.Acts.Answers.{Done}
+use Rattle.ct_machine.specs.Acts.Arrivals.{next_number, has_room_for, arriving_at, arriving}
+use Rattle.ct_machine.specs.Acts.Steps.{blocked_by}
+use Rattle.ct_machine.specs.Acts.Steps.{beginning_unless, stepping_at, is_sent, stepping}
+use Rattle.ct_machine.specs.Acts.Messages.{taking_in, coming_in, coming_to_a}
+use Rattle.ct_machine.specs.Acts.Messages.{stopping_at, stopping, coming_to_b, delivering_first, messages_to, delivering}
+use Rattle.ct_machine.specs.Acts.Next.{next_step, stepping_next, doing_next}
+use Rattle.ct_machine.specs.Acts.{doing}
 use Rattle.ct_machine.specs.Runs.{replay, IsRun}
-use Rattle.ct_machine.specs.Laws.{reserved_events}
 use Rattle.ct_law.proofs.Tasks.{Has, has_found, has_without}
 use Rattle.ct_plan.proofs.Performing.{made_within}
 use Rattle.ct_law.proofs.Messages.{is_arrival, is_end}
@@ -554,8 +568,8 @@ costs_act laws n s (act.Next count) fault h = go s.to_a s.to_b
     go [] [] = costs_next laws n s (next_step s) count fault h
 
 -- what a run wrote, and what is left
-pub room_run : (o : Opening) (journal : List Logged) → IsRun o journal → IsFine (length (opened o).blocks) (replay o journal) × (length journal + left (length (opened o).blocks) (replay o journal) ≤ reserved_events o)
-room_run o journal run = run_induction o (λ s j. IsFine n s × (length j + left n s ≤ reserved_events o)) (fine_opened o, omega arith)
+pub room_run : (o : Opening) (journal : List Logged) → IsRun o journal → IsFine (length (opened o).blocks) (replay o journal) × (length journal + left (length (opened o).blocks) (replay o journal) ≤ events_for o.room)
+room_run o journal run = run_induction o (λ s j. IsFine n s × (length j + left n s ≤ events_for o.room)) (fine_opened o, omega arith)
     (λ s j a fault allowed h.
     let c = costs_act Commands.laws n s a fault h.0 in
     let e = length-append j (doing s a fault).turn.journal in
@@ -565,5 +579,5 @@ room_run o journal run = run_induction o (λ s j. IsFine n s × (length j + left
     n : ℕ
     n = length (opened o).blocks
 
-pub fits_room : (o : Opening) (journal : List Logged) → IsRun o journal → length journal ≤ reserved_events o
+pub fits_room : (o : Opening) (journal : List Logged) → IsRun o journal → length journal ≤ events_for o.room
 fits_room o journal run = let h = (room_run o journal run).1 in omega (arith, h)

@@ -19,7 +19,8 @@ use Rattle.ct_plan.specs.Plans.{is_put, operation_of, operations_from, operation
 use Rattle.ct_plan.specs.Tasks.{lba_of}
 use Rattle.ct_plan.proofs.Planned.{lba_is}
 use Rattle.ct_plan.proofs.Ranged.{put_of}
-use Rattle.ct_matrix.specs.Extents.{Print, blocks_in, share_a_block, overlap, extents_of, extents_if, whole_print}
+use Rattle.ct_matrix.specs.Extents.{Print, blocks_in, share_a_block, overlap, extents_of, rising, extents_if, whole_print}
+use Rattle.ct_matrix.proofs.Rising.{any_rising}
 use Rattle.ct_matrix.specs.Extents.{no_print, footprint_of}
 use Rattle.ct_matrix.specs.Matrix.{action_of}
 use Rattle.ct_matrix.specs.Conflicts.{is_conflict, conflicts}
@@ -160,8 +161,9 @@ extents_numbers (range ∷ ranges) = go (nat_eq range.count 0) refl (extents_num
     go false e same = ap (λ numbers. numbers_from range.lba range.count ++ numbers) same
 
 in_extents : (l : ℕ) (goes : Bool) (ranges : List LbaRange) → goes ≡ true → is_among l (numbers_of ranges) ≡ true
-    → is_among l (blocks_in (extents_if goes ranges)) ≡ true
-in_extents l true ranges e m = ap (is_among l) (extents_numbers ranges) ∙ m
+    → is_among l (blocks_in (extents_if goes (rising (extents_of ranges)))) ≡ true
+in_extents l true ranges e m =
+    any_rising (λ (block : ℕ). nat_eq l block) (extents_of ranges) ∙ ap (is_among l) (extents_numbers ranges) ∙ m
 in_extents l false ranges e m = absurd (cc)
 
 put_printed : (l : ℕ) (p : Profile) → puts l (planned p.phases p.ranges) ≡ true

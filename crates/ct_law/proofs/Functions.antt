@@ -11,9 +11,9 @@ use Rattle.ct_book.specs.Journals.{numbered, works_in}
 use Rattle.ct_exec.specs.Controls.{ControlState, Disk}
 use Rattle.ct_machine.specs.declared.act.Opening.{Opening}
 use Rattle.ct_machine.specs.States.{Task, Stage, Waiting, Here, Granted, There, Over, Open, Arrival, State, is_waiting}
-use Rattle.ct_machine.specs.Events.{works_of}
+use Rattle.ct_machine.specs.Events.Functions.{works_of}
 use Rattle.ct_machine.specs.Serial.{serial_disk}
-use Rattle.ct_machine.specs.Laws.{has, is_entry, is_begin, is_enter, is_asked, comes_first}
+use Rattle.ct_machine.specs.Laws.Journals.{has, is_entry, is_begin, is_enter, is_asked, comes_first}
 use Rattle.ct_law.proofs.Tasks.{Has}
 use Rattle.ct_law.proofs.Held.{Rules, Holds, is_active}
 use Rattle.ct_law.proofs.Journal.{each_more, has_same, has_not, has_now, has_stays, Untouched}
@@ -31,10 +31,13 @@ use Rattle.ct_book.specs.Histories.{cut_by, set_of, set_by}
 use Rattle.ct_exec.specs.Controls.{closing_control}
 use Rattle.ct_exec.specs.Executions.{refusal_of}
 use Rattle.ct_machine.specs.States.{is_here}
-use Rattle.ct_machine.specs.Events.{is_hit, is_awaited, awaited_by, wants_stop, stop, stops_by, is_told, taken_up, without_function, others_cut}
-use Rattle.ct_machine.specs.Acts.{is_sought, outcome_of, numbers_of}
+use Rattle.ct_machine.specs.Events.Functions.{is_hit, is_awaited, awaited_by, wants_stop, stops_by, is_told, taken_up, without_function, others_cut}
+use Rattle.ct_machine.specs.Events.Sends.{stop}
+use Rattle.ct_machine.specs.Acts.Functions.{is_sought, outcome_of, numbers_of}
 use Rattle.ct_machine.specs.Serial.{function_done}
-use Rattle.ct_machine.specs.Laws.{ClosesBehindAll, IsFunctionOf, is_rejected}
+use Rattle.ct_machine.specs.Laws.Prefix.{ClosesBehindAll}
+use Rattle.ct_machine.specs.Laws.Journals.{IsFunctionOf}
+use Rattle.ct_machine.specs.Laws.Kinds.{is_rejected}
 use Rattle.ct_law.proofs.Laws.{Laws}
 use Rattle.ct_law.proofs.Held.{rules_closes, closes_held}
 use Rattle.ct_law.proofs.Journal.{first_has, cut_more}

@@ -14,7 +14,8 @@ use Rattle.ct_machine.specs.States.{Arrival, State, opened}
 use Rattle.ct_machine.specs.Events.{after, after_events}
 use Rattle.ct_machine.specs.Runs.{replay}
 use Rattle.ct_machine.specs.Serial.{disk_after, serial_behind, serial_disk}
-use Rattle.ct_machine.specs.Laws.{Beside, beside_after, beside_behind, beside, Due, due_after, due_behind, due_of}
+use Rattle.ct_machine.specs.Laws.Cells.{Beside, beside_after, beside_behind, beside}
+use Rattle.ct_machine.specs.Laws.Timely.{Due, due_after, due_behind, due_of}
 
 after_events-append : (s : State) (es fs : List Logged) → after_events s (es ++ fs) ≡ after_events (after_events s es) fs
 after_events-append s [] fs = refl

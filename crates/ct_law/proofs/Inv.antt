@@ -11,9 +11,15 @@ use Rattle.ct_book.specs.Journals.{numbered, works_in}
 use Rattle.ct_exec.specs.Controls.{Disk, is_unrestricted}
 use Rattle.ct_machine.specs.declared.act.Opening.{Opening}
 use Rattle.ct_machine.specs.States.{Task, Stage, Waiting, Here, There, Arrival, State, is_waiting, has_begun}
-use Rattle.ct_machine.specs.Events.{works_of}
+use Rattle.ct_machine.specs.Events.Functions.{works_of}
 use Rattle.ct_machine.specs.Serial.{disk_after, serial_disk}
-use Rattle.ct_machine.specs.Laws.{Each, has, is_entry, is_begin, is_enter, comes_first, IsCommandOf, IsFirstEntry, goes_first, IsBehindAll, BeginsOrderly, RecordsPrefixAt, RepliesByCells, IsOfItsKind, MakesPlanAt, IsRestricted, IsLegalAt, IsSoundAt, Beside, beside, beside_after}
+use Rattle.ct_machine.specs.Laws.Journals.{Each, has, is_entry, is_begin, is_enter, comes_first, IsCommandOf}
+use Rattle.ct_machine.specs.Laws.Once.{IsFirstEntry}
+use Rattle.ct_machine.specs.Laws.Orderly.{goes_first, IsBehindAll, BeginsOrderly}
+use Rattle.ct_machine.specs.Laws.Prefix.{RecordsPrefixAt}
+use Rattle.ct_machine.specs.Laws.Cells.{RepliesByCells, MakesPlanAt, Beside, beside, beside_after}
+use Rattle.ct_machine.specs.Laws.Kinds.{IsOfItsKind}
+use Rattle.ct_machine.specs.Laws.Legal.{IsRestricted, IsLegalAt, IsSoundAt}
 use Rattle.ct_law.proofs.Tasks.{Has}
 use Rattle.ct_law.proofs.Laws.{Laws}
 use Rattle.ct_law.proofs.Held.{Rules, Holds}

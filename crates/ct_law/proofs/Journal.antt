@@ -6,7 +6,7 @@ use Rattle.ct_book.specs.declared.event.Event.TheVariants as event
 use Rattle.ct_book.specs.declared.event.Why.TheVariants.{By, Medium}
 use Rattle.ct_book.specs.declared.event.Logged.{Logged}
 use Rattle.ct_book.specs.Histories.{cut_at, cut_by}
-use Rattle.ct_machine.specs.Laws.{EachBehind, has, is_entry, is_begin, is_enter, is_asked, made_at, made_by, comes_first}
+use Rattle.ct_machine.specs.Laws.Journals.{EachBehind, has, is_entry, is_begin, is_enter, is_asked, made_at, made_by, comes_first}
 
 pub each_more : (P : List Logged → Logged → Type 0) (before es : List Logged) (e : Logged) → EachBehind P before es → P (before ++ es) e → EachBehind P before (es ++ e ∷ [])
 each_more P before [] e h p = (subst (λ b. P b e) (append-nil before) p, tt)

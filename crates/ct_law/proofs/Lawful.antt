@@ -9,7 +9,10 @@ use Rattle.ct_machine.specs.declared.act.Opening.{Opening}
 use Rattle.ct_machine.specs.States.{Arrival, State}
 use Rattle.ct_machine.specs.Serial.{serial_disk}
 use Rattle.ct_machine.specs.Runs.{replay, IsRun}
-use Rattle.ct_machine.specs.Laws.{EachBehind, Each, has, is_entry, is_enter, work_in, IsQuiet, IsLegalAt, IsLawful}
+use Rattle.ct_machine.specs.Laws.Journals.{EachBehind, Each, has, is_entry, is_enter, work_in}
+use Rattle.ct_machine.specs.Laws.Once.{IsQuiet}
+use Rattle.ct_machine.specs.Laws.Legal.{IsLegalAt}
+use Rattle.ct_machine.specs.Laws.{IsLawful}
 use Rattle.ct_law.proofs.Tasks.{Has}
 use Rattle.ct_law.proofs.Journal.{each_more}
 use Rattle.ct_law.proofs.Held.{idle_same}
@@ -18,6 +21,8 @@ use Rattle.ct_law.proofs.Inv.{LawfulAt}
 use Rattle.ct_law.proofs.Books.{IsAsk}
 use Rattle.ct_law.proofs.Walk.{Now, NoneDue}
 use Rattle.ct_law.proofs.Comings.{every_run}
+use Rattle.ct_law.proofs.Busy.{next_is_busy, idle_is_quiet}
+use Rattle.ct_law.proofs.Heard.{HeardAt, heard_runs}
 use Rattle.ct_law.proofs.Complete.{IsOpenNo, IsGiven, given_run}
 
 each_map : (P R : List Logged → Logged → Type 0) → ((before : List Logged) (l : Logged) → P before l → R before l) → (before journal : List Logged) → EachBehind P before journal → EachBehind R before journal
@@ -81,12 +86,21 @@ lawful o journal run = record {
   prefix = each_map (LawfulAt o) _ (λ before l h. h.prefix) [] journal each;
   cells = record { replies = each_map (LawfulAt o) _ (λ before l h. h.cells) [] journal each; blocks = now.inv.cells.blocks 0 };
   timely = record { each = now.schedule.timely; done = now.schedule.due };
+  tells = each_map (HeardAt o) _ (λ before l h. h.tells) [] journal heard;
+  answers = each_map (HeardAt o) _ (λ before l h. h.answers) [] journal heard;
+  waits = each_map (HeardAt o) _ (λ before l h. h.waits) [] journal heard;
+  closes = each_map (HeardAt o) _ (λ before l h. h.closes) [] journal heard;
+  next = λ count fault void. next_is_busy o journal run count fault void;
+  rest = λ count fault idle. let quiet = idle_is_quiet o journal run count fault idle in (quiet, over_when_quiet o journal run quiet);
   control = now.inv.rules.control;
   blocks = λ r none. idle_same o.blocks (serial_disk o journal) (replay o journal).blocks (replay o journal).tasks (now.inv.holds r) (λ x hx. absurd (subst (λ q. Has q x) none hx));
 }
   where
     now : Now NoneDue o (replay o journal) journal
     now = every_run laws o journal run
+
+    heard : Each (HeardAt o) journal
+    heard = heard_runs laws o journal run
 
     each : Each (LawfulAt o) journal
     each = now.inv.frame.each

@@ -28,11 +28,14 @@ pub mod Cleared
 pub mod Clears
 pub mod Turns
 pub mod Comings
+pub mod Steady
+pub mod Heard
+pub mod Awaits
 pub mod Arrivals
 pub mod Complete
-pub mod Lawful
 pub mod Writes
 pub mod Busy
 pub mod Live
+pub mod Lawful
 pub mod Weights
 pub mod Fits

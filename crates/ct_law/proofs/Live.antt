@@ -14,9 +14,14 @@ use Rattle.ct_machine.specs.declared.act.Act.TheVariants as act
 use Rattle.ct_machine.specs.declared.act.Answer.TheVariants as answer
 use Rattle.ct_machine.specs.declared.act.Opening.{Opening}
 use Rattle.ct_machine.specs.States.{Stage, Waiting, Here, Granted, There, Over, Task, Message, State, opened, arrival_of, task_of, is_waiting, is_moving, has_begun, held_of, task_set_of}
-use Rattle.ct_machine.specs.Acts.{Done, nothing, ends, line_by, moved_answer, first_some, blocked_by, beginning_unless, stepping_at, is_sent, stepping, delivering_first, messages_to, delivering, first_moving, next_step, stepping_next, doing_next, doing, act_of}
+use Rattle.ct_machine.specs.Acts.Answers.{Done, ends, line_by, moved_answer, first_some}
+use Rattle.ct_machine.specs.Acts.Turns.{nothing}
+use Rattle.ct_machine.specs.Acts.Steps.{blocked_by, beginning_unless, stepping_at, is_sent, stepping}
+use Rattle.ct_machine.specs.Acts.Messages.{delivering_first, messages_to, delivering}
+use Rattle.ct_machine.specs.Acts.Next.{first_moving, next_step, stepping_next, doing_next}
+use Rattle.ct_machine.specs.Acts.{doing, act_of}
 use Rattle.ct_machine.specs.Runs.{replay, IsRun}
-use Rattle.ct_machine.specs.Laws.{IsLive, NeverStops}
+use Rattle.ct_machine.specs.Laws.Live.{IsLive, NeverStops}
 use Rattle.ct_law.proofs.Tasks.{Has}
 use Rattle.ct_law.proofs.Messages.{is_end, is_grant, Sent}
 use Rattle.ct_law.proofs.Books.{is_over}
@@ -139,7 +144,7 @@ both_none (Some x) b e = absurd (cc)
 both_none None b e = (refl, e)
 
 -- a task set with no message on its way and with no next step is empty
-no_step : (size : ℕ) (s : State) (q : List Task) → s.tasks ≡ q → IsFine size s → s.to_a ≡ [] → s.to_b ≡ [] → next_step s ≡ None → q ≡ []
+pub no_step : (size : ℕ) (s : State) (q : List Task) → s.tasks ≡ q → IsFine size s → s.to_a ≡ [] → s.to_b ≡ [] → next_step s ≡ None → q ≡ []
 no_step size s [] t h a b e = refl
 no_step size s (x ∷ q) t h a b e =
     let none = both_none (next_ready_of (task_set_of s)) (first_moving s.tasks) e in

@@ -14,7 +14,9 @@ use Rattle.ct_exec.specs.Controls.{Disk, is_unrestricted}
 use Rattle.ct_machine.specs.declared.act.Opening.{Opening}
 use Rattle.ct_machine.specs.States.{Task, Stage, Waiting, Open, Arrival, State, is_waiting, done_at, with_task, at_stage}
 use Rattle.ct_machine.specs.Serial.{serial_disk}
-use Rattle.ct_machine.specs.Laws.{has, is_entry, is_begin, is_enter, made_at, IsRestricted, Beside, beside}
+use Rattle.ct_machine.specs.Laws.Journals.{has, is_entry, is_begin, is_enter, made_at}
+use Rattle.ct_machine.specs.Laws.Legal.{IsRestricted}
+use Rattle.ct_machine.specs.Laws.Cells.{Beside, beside}
 use Rattle.ct_law.proofs.Tasks.{Has, has_with}
 use Rattle.ct_law.proofs.Held.{Holds, is_active}
 use Rattle.ct_law.proofs.Journal.{each_more, has_same, IsOf}
@@ -27,8 +29,10 @@ use Rattle.ct_law.proofs.Inv.{LawfulAt, Frame, Gained, Inv, Others, got_at, told
 use Rattle.ct_law.proofs.Inv.{serial-same, cells_event}
 use Rattle.ct_plan.specs.Cells.{Progress, performed}
 use Rattle.ct_exec.specs.Executions.{refusal_of, plan_in}
-use Rattle.ct_machine.specs.Events.{further}
-use Rattle.ct_machine.specs.Laws.{IsBehindAll, IsCommandOf, work_in, moved_beside, kept_if}
+use Rattle.ct_machine.specs.Events.Moves.{further}
+use Rattle.ct_machine.specs.Laws.Orderly.{IsBehindAll}
+use Rattle.ct_machine.specs.Laws.Journals.{IsCommandOf, work_in}
+use Rattle.ct_machine.specs.Laws.Cells.{moved_beside, kept_if}
 use Rattle.ct_law.proofs.Laws.{Laws, has_operations}
 use Rattle.ct_law.proofs.Blocks.{perform_alike}
 use Rattle.ct_law.proofs.Ready.{IsReady}

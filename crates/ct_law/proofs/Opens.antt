@@ -14,8 +14,10 @@ use Rattle.ct_book.specs.declared.event.Logged.{Logged}
 use Rattle.ct_book.specs.Journals.{numbered}
 use Rattle.ct_book.specs.Histories.{cut_at, cut_by}
 use Rattle.ct_machine.specs.States.{Task, Stage, Waiting, Here, Granted, There, Over, Open, Message, Arrival}
-use Rattle.ct_machine.specs.Events.{is_hit, noted, awaits_no_more, without_function, with_function}
-use Rattle.ct_machine.specs.Laws.{has, is_entry, is_begin, is_enter, is_asked, comes_first}
+use Rattle.ct_machine.specs.Events.Functions.{is_hit, without_function, with_function}
+use Rattle.ct_machine.specs.Events.Ends.{noted}
+use Rattle.ct_machine.specs.Events.Deliveries.{awaits_no_more}
+use Rattle.ct_machine.specs.Laws.Journals.{has, is_entry, is_begin, is_enter, is_asked, comes_first}
 use Rattle.ct_law.proofs.Tasks.{Has}
 use Rattle.ct_law.proofs.Held.{is_active}
 use Rattle.ct_law.proofs.Journal.{has_stays, has_not, cut_more, first_stays, first_has, Untouched}

@@ -6,7 +6,7 @@ use Rattle.ct_book.specs.declared.work.Command.{Command}
 use Rattle.ct_book.specs.declared.event.Event.TheVariants as event
 use Rattle.ct_book.specs.declared.event.Logged.{Logged}
 use Rattle.ct_machine.specs.States.{Task, Stage, is_waiting, without_task, with_task, at_stage, queued}
-use Rattle.ct_machine.specs.Laws.{is_enter, has, comes_first}
+use Rattle.ct_machine.specs.Laws.Journals.{is_enter, has, comes_first}
 use Rattle.ct_law.proofs.Tasks.{Has, has_without, has_with, has_queued, precedes, precedes_without, precedes_with, precedes_queued, last_queued, head_queued}
 use Rattle.ct_law.proofs.Journal.{first_more, first_old, first_has}
 

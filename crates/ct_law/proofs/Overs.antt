@@ -19,7 +19,9 @@ use Rattle.ct_exec.specs.Controls.{Disk, is_unrestricted}
 use Rattle.ct_machine.specs.declared.act.Opening.{Opening}
 use Rattle.ct_machine.specs.States.{Task, Waiting, Over, Open, Arrival, State, is_waiting, done_at, with_task, at_stage}
 use Rattle.ct_machine.specs.Serial.{disk_after, serial_disk}
-use Rattle.ct_machine.specs.Laws.{has, is_entry, is_begin, is_enter, is_asked, IsCommandOf, IsFunctionOf, IsRestricted, beside}
+use Rattle.ct_machine.specs.Laws.Journals.{has, is_entry, is_begin, is_enter, is_asked, IsCommandOf, IsFunctionOf}
+use Rattle.ct_machine.specs.Laws.Legal.{IsRestricted}
+use Rattle.ct_machine.specs.Laws.Cells.{beside}
 use Rattle.ct_law.proofs.Tasks.{Has, with_itself}
 use Rattle.ct_law.proofs.Changed.{with_with}
 use Rattle.ct_law.proofs.Held.{Rules, Holds, is_active}
@@ -34,9 +36,12 @@ use Rattle.ct_plan.specs.Plans.{puts_among}
 use Rattle.ct_plan.specs.Cells.{Progress}
 use Rattle.ct_exec.specs.Executions.{Execution, execute, refusal_of, plan_in, reply_moved, reply_failed}
 use Rattle.ct_machine.specs.States.{disk_of}
-use Rattle.ct_machine.specs.Events.{noted, is_hit, further}
+use Rattle.ct_machine.specs.Events.Ends.{noted}
+use Rattle.ct_machine.specs.Events.Functions.{is_hit}
+use Rattle.ct_machine.specs.Events.Moves.{further}
 use Rattle.ct_machine.specs.Serial.{command_ran, command_cut, cut_disk}
-use Rattle.ct_machine.specs.Laws.{made_by, RepliesAsExecuted, IsCutFor}
+use Rattle.ct_machine.specs.Laws.Journals.{made_by}
+use Rattle.ct_machine.specs.Laws.Legal.{RepliesAsExecuted, IsCutFor}
 use Rattle.ct_law.proofs.Laws.{Laws, IsOnce, Same}
 use Rattle.ct_law.proofs.Ready.{IsReady}
 use Rattle.ct_law.proofs.Ends.{IsAt, at_active, at_done, at_further, running_in, cut_held, cut_rules, ran_held}

@@ -7,7 +7,7 @@ use Rattle.ct_matrix.specs.Queues.{first_to_wait_for, blocker_of}
 use Rattle.ct_book.specs.declared.work.Command.{Command}
 use Rattle.ct_exec.specs.Controls.{is_unrestricted}
 use Rattle.ct_machine.specs.States.{Task, State, held_by, held_of, task_set_of}
-use Rattle.ct_machine.specs.Laws.{goes_first}
+use Rattle.ct_machine.specs.Laws.Orderly.{goes_first}
 use Rattle.ct_law.proofs.Tasks.{Has, precedes}
 use Rattle.ct_law.proofs.Laws.{Laws}
 

@@ -25,16 +25,26 @@ use Rattle.ct_machine.specs.declared.act.Act.TheVariants as act
 use Rattle.ct_machine.specs.declared.act.Answer.TheVariants as answer
 use Rattle.ct_machine.specs.declared.act.Opening.{Opening}
 use Rattle.ct_machine.specs.States.{Stage, Waiting, Here, Granted, There, Over, Task, Open, Message, Arrival, State, opened, disk_of, arrival_of, task_of, function_of, is_here}
-use Rattle.ct_machine.specs.Events.{after, after_events, is_cleared, is_hit, is_told}
+use Rattle.ct_machine.specs.Events.{after, after_events}
+use Rattle.ct_machine.specs.Events.Ends.{is_cleared}
+use Rattle.ct_machine.specs.Events.Functions.{is_hit, is_told}
 use Rattle.ct_plan.specs.Pieces.{tried}
-use Rattle.ct_machine.specs.Acts.{Turn, nothing, writes, says, followed, turned_cause, entering_with, entering}
-use Rattle.ct_machine.specs.Acts.{puts_of, cutting, numbers_of, cutting_all, closing_if, closing}
-use Rattle.ct_machine.specs.Acts.{open_numbers, closing_all, taking_up, asking, moving_on, failing, failing_if}
-use Rattle.ct_machine.specs.Acts.{moved_to, moving_from, moving, clearing, clearing_all, ending_at_once, is_granted}
-use Rattle.ct_machine.specs.Acts.{beginning_at, beginning, Done, next_number, has_room_for, arriving_at, arriving}
-use Rattle.ct_machine.specs.Acts.{blocked_by, beginning_unless, stepping_at, is_sent, stepping, taking_in, coming_in}
-use Rattle.ct_machine.specs.Acts.{coming_to_a, stopping_at, stopping, coming_to_b, coming_to, delivering_first}
-use Rattle.ct_machine.specs.Acts.{messages_to, delivering, next_step, stepping_next, doing_next, doing, act_of}
+use Rattle.ct_machine.specs.Acts.Turns.{Turn, nothing, writes, says, followed}
+use Rattle.ct_machine.specs.Acts.Entries.{turned_cause, entering_with, entering}
+use Rattle.ct_machine.specs.Acts.Functions.{puts_of, cutting, numbers_of, cutting_all, closing_if, closing}
+use Rattle.ct_machine.specs.Acts.Functions.{open_numbers, closing_all, taking_up, asking}
+use Rattle.ct_machine.specs.Acts.Moves.{moving_on, failing, failing_if}
+use Rattle.ct_machine.specs.Acts.Moves.{moved_to, moving_from, moving}
+use Rattle.ct_machine.specs.Acts.Begins.{clearing, clearing_all, ending_at_once, is_granted}
+use Rattle.ct_machine.specs.Acts.Begins.{beginning_at, beginning}
+use Rattle.ct_machine.specs.Acts.Answers.{Done}
+use Rattle.ct_machine.specs.Acts.Arrivals.{next_number, has_room_for, arriving_at, arriving}
+use Rattle.ct_machine.specs.Acts.Steps.{blocked_by, beginning_unless, stepping_at, is_sent, stepping}
+use Rattle.ct_machine.specs.Acts.Messages.{taking_in, coming_in}
+use Rattle.ct_machine.specs.Acts.Messages.{coming_to_a, stopping_at, stopping, coming_to_b, coming_to, delivering_first}
+use Rattle.ct_machine.specs.Acts.Messages.{messages_to, delivering}
+use Rattle.ct_machine.specs.Acts.Next.{next_step, stepping_next, doing_next}
+use Rattle.ct_machine.specs.Acts.{doing, act_of}
 use Rattle.ct_machine.specs.Runs.{replay, IsAllowed, Move, written, journal_of, IsRun}
 use Rattle.ct_law.proofs.Growing.{replay-append}
 

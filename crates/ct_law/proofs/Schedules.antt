@@ -18,11 +18,12 @@ use Rattle.ct_exec.specs.Executions.{execute, plan_in}
 use Rattle.ct_machine.specs.declared.act.Opening.{Opening}
 use Rattle.ct_machine.specs.States.{Task, State, is_waiting, done_at, without_task, with_task, queued}
 use Rattle.ct_machine.specs.Events.{after}
-use Rattle.ct_machine.specs.Acts.{numbers_of}
+use Rattle.ct_machine.specs.Acts.Functions.{numbers_of}
 use Rattle.ct_machine.specs.Runs.{replay}
 use Rattle.ct_machine.specs.Serial.{serial_disk}
-use Rattle.ct_machine.specs.Laws.{Each, IsCommandOf, IsFunctionOf, Due, is_of, due_by, due_after, due_of}
-use Rattle.ct_machine.specs.Laws.{IsCutByCommand, IsTimelyAt}
+use Rattle.ct_machine.specs.Laws.Journals.{Each, IsCommandOf, IsFunctionOf}
+use Rattle.ct_machine.specs.Laws.Timely.{Due, is_of, due_by, due_after, due_of}
+use Rattle.ct_machine.specs.Laws.Timely.{IsCutByCommand, IsTimelyAt}
 use Rattle.ct_law.proofs.Tasks.{Has, has_without, has_with, has_queued}
 use Rattle.ct_law.proofs.Journal.{each_more}
 use Rattle.ct_law.proofs.Growing.{replay-more, due-more}

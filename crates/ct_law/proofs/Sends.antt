@@ -5,6 +5,7 @@ use Rattle.ct_word.specs.declared.names.Node.{Node}
 use Rattle.ct_word.specs.declared.names.Node.TheVariants.{A, B}
 use Rattle.ct_sense.specs.declared.reply.Reply.{Reply}
 use Rattle.ct_matrix.specs.Conflicts.{is_head}
+use Rattle.ct_matrix.specs.Queues.{before_first}
 use Rattle.ct_book.specs.declared.work.Work.TheVariants as work
 use Rattle.ct_book.specs.declared.event.Event.{Event}
 use Rattle.ct_book.specs.declared.event.Event.TheVariants as event
@@ -19,9 +20,20 @@ use Rattle.ct_exec.specs.Controls.{tells_aborts}
 use Rattle.ct_exec.specs.Executions.{Execution, execute, plan_in}
 use Rattle.ct_machine.specs.declared.act.Act.{Act}
 use Rattle.ct_machine.specs.declared.act.Opening.{Opening}
-use Rattle.ct_machine.specs.States.{Stage, Waiting, Here, Granted, There, Over, Task, Open, Message, Arrival, State, opened, disk_of, arrival_of, task_of, function_of, is_waiting, without_task, with_task, at_stage, before_waiting, queued}
-use Rattle.ct_machine.specs.Events.{message, to_b_if, came_at_b, answered, new_task, staged, cells_after, further, moved_from, moved_at, after_moved, leaves, over_at_b, stops_with, executed_at_once, ended_at, after_ended, cut_at, after_cut, asked_for, after_asked, after_enter, entered, closed, came_to_a, begun_at_b, after_grant, came_to_b, after_came, after_event, after}
-use Rattle.ct_machine.specs.Acts.{Turn, turned_cause, entering_with, taking_in, coming_in, coming_to_a, coming_to_b, open_numbers, next_number, arriving_at, delivering_first, messages_to, doing}
+use Rattle.ct_machine.specs.States.{Stage, Waiting, Here, Granted, There, Over, Task, Open, Message, Arrival, State, opened, disk_of, arrival_of, task_of, function_of, is_waiting, without_task, with_task, at_stage, waits, queued}
+use Rattle.ct_machine.specs.Events.Sends.{message, to_b_if, came_at_b, answered}
+use Rattle.ct_machine.specs.Events.Arrivals.{new_task, after_enter, entered, after_came}
+use Rattle.ct_machine.specs.Events.Moves.{staged, cells_after, further, moved_from, moved_at, after_moved}
+use Rattle.ct_machine.specs.Events.Ends.{leaves, over_at_b, stops_with, executed_at_once, ended_at, after_ended, cut_at, after_cut}
+use Rattle.ct_machine.specs.Events.Functions.{asked_for, after_asked, closed}
+use Rattle.ct_machine.specs.Events.Deliveries.{came_to_a, begun_at_b, after_grant, came_to_b}
+use Rattle.ct_machine.specs.Events.{after_event, after}
+use Rattle.ct_machine.specs.Acts.Turns.{Turn}
+use Rattle.ct_machine.specs.Acts.Entries.{turned_cause, entering_with}
+use Rattle.ct_machine.specs.Acts.Messages.{taking_in, coming_in, coming_to_a, coming_to_b, delivering_first, messages_to}
+use Rattle.ct_machine.specs.Acts.Functions.{open_numbers}
+use Rattle.ct_machine.specs.Acts.Arrivals.{next_number, arriving_at}
+use Rattle.ct_machine.specs.Acts.{doing}
 use Rattle.ct_law.proofs.Tasks.{Has, has_found, has_without, has_with, has_queued}
 use Rattle.ct_law.proofs.Messages.{is_arrival, is_end, is_grant, Sent, push_sent, push_last, append_sent}
 use Rattle.ct_law.proofs.Books.{is_over}
@@ -63,18 +75,18 @@ in_push : (n : ℕ) (w : Task) (q : List Task) → in_tasks n (q ++ w ∷ []) �
 in_push n w [] = refl
 in_push n w (x ∷ xs) = let h = in_push n w xs in omega (arith, h)
 
-in_before : (n : ℕ) (w : Task) (q : List Task) → in_tasks n (before_waiting w q) ≡ one_if (nat_eq w.no n) + in_tasks n q
+in_before : (n : ℕ) (w : Task) (q : List Task) → in_tasks n (before_first waits w q) ≡ one_if (nat_eq w.no n) + in_tasks n q
 in_before n w [] = refl
 in_before n w (x ∷ xs) = go (is_waiting x.stage) (in_before n w xs)
   where
-    go : (t : Bool) → in_tasks n (before_waiting w xs) ≡ one_if (nat_eq w.no n) + in_tasks n xs → in_tasks n (cond t (w ∷ x ∷ xs) (x ∷ before_waiting w xs)) ≡ one_if (nat_eq w.no n) + (one_if (nat_eq x.no n) + in_tasks n xs)
+    go : (t : Bool) → in_tasks n (before_first waits w xs) ≡ one_if (nat_eq w.no n) + in_tasks n xs → in_tasks n (cond t (w ∷ x ∷ xs) (x ∷ before_first waits w xs)) ≡ one_if (nat_eq w.no n) + (one_if (nat_eq x.no n) + in_tasks n xs)
     go true h = refl
     go false h = omega (arith, h)
 
 pub in_queued : (n : ℕ) (w : Task) (q : List Task) → in_tasks n (queued w q) ≡ one_if (nat_eq w.no n) + in_tasks n q
 in_queued n w q = go (is_head w.command.attr)
   where
-    go : (t : Bool) → in_tasks n (cond t (before_waiting w q) (q ++ w ∷ [])) ≡ one_if (nat_eq w.no n) + in_tasks n q
+    go : (t : Bool) → in_tasks n (cond t (before_first waits w q) (q ++ w ∷ [])) ≡ one_if (nat_eq w.no n) + in_tasks n q
     go true = in_before n w q
     go false = in_push n w q
 

@@ -14,11 +14,14 @@ use Rattle.ct_book.specs.Journals.{KeptWork, numbered, arrived}
 use Rattle.ct_exec.specs.Controls.{ControlState}
 use Rattle.ct_machine.specs.declared.act.Opening.{Opening}
 use Rattle.ct_machine.specs.States.{Task, Message, Arrival, State, arrival_of, queued}
-use Rattle.ct_machine.specs.Events.{message, to_b_if, came_at_b, answered, new_task}
+use Rattle.ct_machine.specs.Events.Sends.{message, to_b_if, came_at_b, answered}
+use Rattle.ct_machine.specs.Events.Arrivals.{new_task}
 use Rattle.ct_machine.specs.Serial.{serial_disk}
-use Rattle.ct_machine.specs.Acts.{turned_cause}
+use Rattle.ct_machine.specs.Acts.Entries.{turned_cause}
 use Rattle.ct_machine.specs.Runs.{replay}
-use Rattle.ct_machine.specs.Laws.{has, is_entry, is_enter, IsCommandOf, IsRestricted, beside}
+use Rattle.ct_machine.specs.Laws.Journals.{has, is_entry, is_enter, IsCommandOf}
+use Rattle.ct_machine.specs.Laws.Legal.{IsRestricted}
+use Rattle.ct_machine.specs.Laws.Cells.{beside}
 use Rattle.ct_law.proofs.Tasks.{Has, has_queued}
 use Rattle.ct_law.proofs.Held.{Rules, Holds, is_active, rules_in, enters_held}
 use Rattle.ct_law.proofs.Journal.{each_more, has_same, has_stays, has_more, quiet, Untouched, untouched_more}

@@ -2,7 +2,8 @@
 use Rattle.std.proofs.Common.{◌≡◌, ℕ, ◌⊎◌, inl, inr, Bool, true, false, ◌||◌, List, [], ◌∷◌, ◌++◌, Some, refl, sym, ap, ◌∙◌, subst, ⊎_elim, nat_eq, cond, eqb-true, eq-eqb}
 use Rattle.std.proofs.lemmas.Bool.{both_ways, eqb-false, or_left, or_right}
 use Rattle.ct_matrix.specs.Conflicts.{is_head}
-use Rattle.ct_machine.specs.States.{Task, is_waiting, task_of, without_task, with_task, before_waiting, queued}
+use Rattle.ct_matrix.specs.Queues.{before_first}
+use Rattle.ct_machine.specs.States.{Task, is_waiting, task_of, without_task, with_task, waits, queued}
 
 -- the item stands in the queue
 abbrev pub Has : List Task → Task → Type 0
@@ -81,23 +82,23 @@ before_or true x y ys q z f (inr h) = inl h
 before_or false x y ys q z f (inl h) = inl (inl h)
 before_or false x y ys q z f (inr h) = ⊎_elim (λ k. inl (inr k)) inr (f h)
 
-has_before : (x : Task) (q : List Task) (z : Task) → Has (before_waiting x q) z → Has q z ⊎ (x ≡ z)
+has_before : (x : Task) (q : List Task) (z : Task) → Has (before_first waits x q) z → Has q z ⊎ (x ≡ z)
 has_before x [] z (inl h) = inr h
 has_before x [] z (inr h) = absurd h
-has_before x (y ∷ ys) z h = before_or (is_waiting y.stage) x y ys (before_waiting x ys) z (has_before x ys z) h
+has_before x (y ∷ ys) z h = before_or (is_waiting y.stage) x y ys (before_first waits x ys) z (has_before x ys z) h
 
 pub has_queued : (x : Task) (q : List Task) (z : Task) → Has (queued x q) z → Has q z ⊎ (x ≡ z)
 has_queued x q z h = go (is_head x.command.attr) h
   where
-    go : (t : Bool) → Has (cond t (before_waiting x q) (q ++ x ∷ [])) z → Has q z ⊎ (x ≡ z)
+    go : (t : Bool) → Has (cond t (before_first waits x q) (q ++ x ∷ [])) z → Has q z ⊎ (x ≡ z)
     go true h = has_before x q z h
     go false h = has_push q x z h
 
-before_has : (x : Task) (q : List Task) (z : Task) → Has q z → Has (before_waiting x q) z
+before_has : (x : Task) (q : List Task) (z : Task) → Has q z → Has (before_first waits x q) z
 before_has x [] z h = absurd h
 before_has x (y ∷ ys) z h = go (is_waiting y.stage) h (before_has x ys z)
   where
-    go : (t : Bool) → Has (y ∷ ys) z → (Has ys z → Has (before_waiting x ys) z) → Has (cond t (x ∷ y ∷ ys) (y ∷ before_waiting x ys)) z
+    go : (t : Bool) → Has (y ∷ ys) z → (Has ys z → Has (before_first waits x ys) z) → Has (cond t (x ∷ y ∷ ys) (y ∷ before_first waits x ys)) z
     go true h rec = inr h
     go false (inl h) rec = inl h
     go false (inr h) rec = inr (rec h)
@@ -105,7 +106,7 @@ before_has x (y ∷ ys) z h = go (is_waiting y.stage) h (before_has x ys z)
 pub queued_has : (x : Task) (q : List Task) (z : Task) → Has q z → Has (queued x q) z
 queued_has x q z h = go (is_head x.command.attr)
   where
-    go : (t : Bool) → Has (cond t (before_waiting x q) (q ++ x ∷ [])) z
+    go : (t : Bool) → Has (cond t (before_first waits x q) (q ++ x ∷ [])) z
     go true = before_has x q z h
     go false = push_has q x z h
 
@@ -113,18 +114,18 @@ push_itself : (q : List Task) (x : Task) → Has (q ++ x ∷ []) x
 push_itself [] x = inl refl
 push_itself (y ∷ q) x = inr (push_itself q x)
 
-before_itself : (x : Task) (q : List Task) → Has (before_waiting x q) x
+before_itself : (x : Task) (q : List Task) → Has (before_first waits x q) x
 before_itself x [] = inl refl
 before_itself x (y ∷ ys) = go (is_waiting y.stage) (before_itself x ys)
   where
-    go : (t : Bool) → Has (before_waiting x ys) x → Has (cond t (x ∷ y ∷ ys) (y ∷ before_waiting x ys)) x
+    go : (t : Bool) → Has (before_first waits x ys) x → Has (cond t (x ∷ y ∷ ys) (y ∷ before_first waits x ys)) x
     go true h = inl refl
     go false h = inr h
 
 pub queued_itself : (x : Task) (q : List Task) → Has (queued x q) x
 queued_itself x q = go (is_head x.command.attr)
   where
-    go : (t : Bool) → Has (cond t (before_waiting x q) (q ++ x ∷ [])) x
+    go : (t : Bool) → Has (cond t (before_first waits x q) (q ++ x ∷ [])) x
     go true = before_itself x q
     go false = push_itself q x
 
@@ -168,7 +169,7 @@ precedes_push : (a b : ℕ) (q : List Task) (w : Task) → precedes a b q ≡ tr
 precedes_push a b [] w e = cc
 precedes_push a b (x ∷ xs) w e = precedes_cons a b x xs (xs ++ w ∷ []) (precedes_push a b xs w) e
 
-precedes_before : (a b : ℕ) (q : List Task) (w : Task) → (w.no ≡ b → ⊥) → precedes a b q ≡ true → precedes a b (before_waiting w q) ≡ true
+precedes_before : (a b : ℕ) (q : List Task) (w : Task) → (w.no ≡ b → ⊥) → precedes a b q ≡ true → precedes a b (before_first waits w q) ≡ true
 precedes_before a b [] w ne e = cc
 precedes_before a b (x ∷ xs) w ne e = go (is_waiting x.stage) (precedes_before a b xs w ne)
   where
@@ -177,14 +178,14 @@ precedes_before a b (x ∷ xs) w ne e = go (is_waiting x.stage) (precedes_before
     under false true f r h = refl
     under false false f r h = h
 
-    go : (t : Bool) → (precedes a b xs ≡ true → precedes a b (before_waiting w xs) ≡ true) → precedes a b (cond t (w ∷ x ∷ xs) (x ∷ before_waiting w xs)) ≡ true
+    go : (t : Bool) → (precedes a b xs ≡ true → precedes a b (before_first waits w xs) ≡ true) → precedes a b (cond t (w ∷ x ∷ xs) (x ∷ before_first waits w xs)) ≡ true
     go true rec = under (nat_eq w.no b) (nat_eq w.no a) (λ h. ne (eqb-true w.no b h)) (precedes a b (x ∷ xs)) e
-    go false rec = precedes_cons a b x xs (before_waiting w xs) rec e
+    go false rec = precedes_cons a b x xs (before_first waits w xs) rec e
 
 pub precedes_queued : (a b : ℕ) (q : List Task) (w : Task) → (w.no ≡ b → ⊥) → precedes a b q ≡ true → precedes a b (queued w q) ≡ true
 precedes_queued a b q w ne e = go (is_head w.command.attr)
   where
-    go : (t : Bool) → precedes a b (cond t (before_waiting w q) (q ++ w ∷ [])) ≡ true
+    go : (t : Bool) → precedes a b (cond t (before_first waits w q) (q ++ w ∷ [])) ≡ true
     go true = precedes_before a b q w ne e
     go false = precedes_push a b q w e
 
@@ -199,10 +200,10 @@ precedes_last (y ∷ ys) x w h new = go (nat_eq y.no w.no) refl h (λ h'. preced
     go false k (inr h) rec = or_right _ _ (rec h)
 
 pub last_queued : (q : List Task) (x w : Task) → is_head w.command.attr ≡ false → Has q x → ((y : Task) → Has q y → y.no ≡ w.no → ⊥) → precedes x.no w.no (queued w q) ≡ true
-last_queued q x w e h new = subst (λ t. precedes x.no w.no (cond t (before_waiting w q) (q ++ w ∷ [])) ≡ true) (sym e) (precedes_last q x w h new)
+last_queued q x w e h new = subst (λ t. precedes x.no w.no (cond t (before_first waits w q) (q ++ w ∷ [])) ≡ true) (sym e) (precedes_last q x w h new)
 
 -- a new HEAD OF QUEUE command stands ahead of each that waits
-precedes_waiting : (q : List Task) (w y : Task) → Has q y → is_waiting y.stage ≡ true → (w.no ≡ y.no → ⊥) → ((x : Task) → Has q x → x.no ≡ y.no → x ≡ y) → precedes w.no y.no (before_waiting w q) ≡ true
+precedes_waiting : (q : List Task) (w y : Task) → Has q y → is_waiting y.stage ≡ true → (w.no ≡ y.no → ⊥) → ((x : Task) → Has q x → x.no ≡ y.no → x ≡ y) → precedes w.no y.no (before_first waits w q) ≡ true
 precedes_waiting [] w y h wy ne one = absurd h
 precedes_waiting (x ∷ xs) w y h wy ne one = go (is_waiting x.stage) refl h (λ h'. precedes_waiting xs w y h' wy ne (λ z hz. one z (inr hz)))
   where
@@ -216,11 +217,11 @@ precedes_waiting (x ∷ xs) w y h wy ne one = go (is_waiting x.stage) refl h (λ
     later false true r f e = refl
     later false false r f e = e
 
-    go : (t : Bool) → is_waiting x.stage ≡ t → Has (x ∷ xs) y → (Has xs y → precedes w.no y.no (before_waiting w xs) ≡ true) → precedes w.no y.no (cond t (w ∷ x ∷ xs) (x ∷ before_waiting w xs)) ≡ true
+    go : (t : Bool) → is_waiting x.stage ≡ t → Has (x ∷ xs) y → (Has xs y → precedes w.no y.no (before_first waits w xs) ≡ true) → precedes w.no y.no (cond t (w ∷ x ∷ xs) (x ∷ before_first waits w xs)) ≡ true
     go true k h rec = first (nat_eq w.no y.no) (nat_eq w.no w.no) _ (λ e. ne (eqb-true w.no y.no e)) (eq-eqb w.no w.no refl)
     go false k (inl h) rec = absurd (both_ways (is_waiting x.stage) k (subst (λ (z : Task). is_waiting z.stage ≡ true) (sym h) wy))
     go false k (inr h) rec = later (nat_eq x.no y.no) (nat_eq x.no w.no) _
         (λ e. both_ways (is_waiting x.stage) k (subst (λ (z : Task). is_waiting z.stage ≡ true) (sym (one x (inl refl) (eqb-true x.no y.no e))) wy)) (rec h)
 
 pub head_queued : (q : List Task) (w y : Task) → is_head w.command.attr ≡ true → Has q y → is_waiting y.stage ≡ true → (w.no ≡ y.no → ⊥) → ((x : Task) → Has q x → x.no ≡ y.no → x ≡ y) → precedes w.no y.no (queued w q) ≡ true
-head_queued q w y e h wy ne one = subst (λ t. precedes w.no y.no (cond t (before_waiting w q) (q ++ w ∷ [])) ≡ true) (sym e) (precedes_waiting q w y h wy ne one)
+head_queued q w y e h wy ne one = subst (λ t. precedes w.no y.no (cond t (before_first waits w q) (q ++ w ∷ [])) ≡ true) (sym e) (precedes_waiting q w y h wy ne one)

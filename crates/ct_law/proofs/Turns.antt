@@ -9,9 +9,9 @@ use Rattle.ct_book.specs.declared.event.Logged.{Logged}
 use Rattle.ct_exec.specs.Controls.{is_unrestricted, tells_aborts}
 use Rattle.ct_machine.specs.declared.act.Opening.{Opening}
 use Rattle.ct_machine.specs.States.{Task, Stage, Waiting, Here, Granted, There, Over, Open, State, without_task, with_task, at_stage}
-use Rattle.ct_machine.specs.Events.{message, answered}
+use Rattle.ct_machine.specs.Events.Sends.{message, answered}
 use Rattle.ct_machine.specs.Runs.{replay}
-use Rattle.ct_machine.specs.Laws.{has, is_entry}
+use Rattle.ct_machine.specs.Laws.Journals.{has, is_entry}
 use Rattle.ct_law.proofs.Tasks.{Has, with_itself}
 use Rattle.ct_law.proofs.Journal.{has_now}
 use Rattle.ct_law.proofs.Inv.{Inv, told, replied}
@@ -23,11 +23,17 @@ use Rattle.ct_plan.specs.Plans.{puts_among}
 use Rattle.ct_plan.specs.Cells.{Progress, performed, Cells as plan_cells}
 use Rattle.ct_exec.specs.Executions.{Execution, execute, refusal_of, plan_in, reply_moved, reply_failed}
 use Rattle.ct_machine.specs.States.{disk_of, task_of}
-use Rattle.ct_machine.specs.Events.{after, after_ended, after_cut, after_moved, cut_at as cut_from, ended_at, moved_at, moved_from, further, stops_with, staged}
+use Rattle.ct_machine.specs.Events.{after}
+use Rattle.ct_machine.specs.Events.Ends.{after_ended, after_cut, cut_at as cut_from, ended_at, stops_with}
+use Rattle.ct_machine.specs.Events.Moves.{after_moved, moved_at, moved_from, further, staged}
 use Rattle.ct_plan.specs.Pieces.{tried}
-use Rattle.ct_machine.specs.Acts.{Turn, nothing, writes, replies, followed, moving_on, failing, failing_if, moved_to}
-use Rattle.ct_machine.specs.Acts.{moving_from, clearing_all, ending_at_once, is_granted, beginning_at, beginning}
-use Rattle.ct_machine.specs.Acts.{numbers_of, blocked_by, beginning_unless, stepping_at, stepping, is_sent, Done}
+use Rattle.ct_machine.specs.Acts.Turns.{Turn, nothing, writes, replies, followed}
+use Rattle.ct_machine.specs.Acts.Moves.{moving_on, failing, failing_if, moved_to}
+use Rattle.ct_machine.specs.Acts.Moves.{moving_from}
+use Rattle.ct_machine.specs.Acts.Begins.{clearing_all, ending_at_once, is_granted, beginning_at, beginning}
+use Rattle.ct_machine.specs.Acts.Functions.{numbers_of}
+use Rattle.ct_machine.specs.Acts.Steps.{blocked_by, beginning_unless, stepping_at, stepping, is_sent}
+use Rattle.ct_machine.specs.Acts.Answers.{Done}
 use Rattle.ct_law.proofs.Tasks.{has_found}
 use Rattle.ct_law.proofs.Laws.{Laws, has_operations, IsOnce}
 use Rattle.ct_law.proofs.Schedules.{Scheduled, Worked, TimelyAt, goes_on, replayed, worked_without, worked_with, untimed, untimed_medium, untimed_end}
@@ -52,7 +58,8 @@ use Rattle.ct_book.specs.Journals.{numbered}
 use Rattle.ct_exec.specs.Controls.{Disk}
 use Rattle.ct_machine.specs.States.{is_waiting, has_begun}
 use Rattle.ct_machine.specs.Serial.{serial_disk}
-use Rattle.ct_machine.specs.Laws.{is_enter, IsCommandOf, due_by, due_of, IsTimelyAt}
+use Rattle.ct_machine.specs.Laws.Journals.{is_enter, IsCommandOf}
+use Rattle.ct_machine.specs.Laws.Timely.{due_by, due_of, IsTimelyAt}
 use Rattle.ct_law.proofs.Held.{Rules}
 use Rattle.ct_law.proofs.Inv.{known_in}
 use Rattle.ct_law.proofs.Tasks.{has_without}

@@ -15,8 +15,9 @@ use Rattle.ct_book.specs.declared.event.Logged.{Logged}
 use Rattle.ct_book.specs.Journals.{numbered}
 use Rattle.ct_machine.specs.declared.act.Opening.{Opening}
 use Rattle.ct_machine.specs.States.{Task, Stage, Waiting, Here, Granted, There, Over, Open, Arrival, State, arrival_of, without_task, with_task, at_stage, queued}
-use Rattle.ct_machine.specs.Events.{answered, came_at_b, message, new_task, to_b_if}
-use Rattle.ct_machine.specs.Laws.{has, is_entry, is_enter, is_asked, IsCommandOf}
+use Rattle.ct_machine.specs.Events.Sends.{answered, came_at_b, message, to_b_if}
+use Rattle.ct_machine.specs.Events.Arrivals.{new_task}
+use Rattle.ct_machine.specs.Laws.Journals.{has, is_entry, is_enter, is_asked, IsCommandOf}
 use Rattle.ct_law.proofs.Tasks.{Has, has_without}
 use Rattle.ct_law.proofs.Journal.{has_not, has_now, has_stays, Untouched}
 use Rattle.ct_law.proofs.Growing.{numbered-map}
@@ -28,8 +29,13 @@ use Rattle.std.specs.Prelude.{nat_le}
 use Rattle.ct_tmf.specs.declared.function.Outcome.{Outcome}
 use Rattle.ct_tmf.specs.declared.function.Outcome.TheVariants.{Rejected}
 use Rattle.ct_machine.specs.States.{function_of, task_of, is_here}
-use Rattle.ct_machine.specs.Events.{after, after_enter, is_hit, is_told, taken_up, after_cut, cut_at as cut_from, closed, after_asked, noted}
-use Rattle.ct_machine.specs.Acts.{outcome_of, Turn, nothing, writes, says, followed, turned_cause, entering_with, entering, puts_of, cutting, numbers_of, cutting_all, closing_if, closing, closing_all, taking_up, asking}
+use Rattle.ct_machine.specs.Events.{after}
+use Rattle.ct_machine.specs.Events.Arrivals.{after_enter}
+use Rattle.ct_machine.specs.Events.Functions.{is_hit, is_told, taken_up, closed, after_asked}
+use Rattle.ct_machine.specs.Events.Ends.{after_cut, cut_at as cut_from, noted}
+use Rattle.ct_machine.specs.Acts.Functions.{outcome_of, puts_of, cutting, numbers_of, cutting_all, closing_if, closing, closing_all, taking_up, asking}
+use Rattle.ct_machine.specs.Acts.Turns.{Turn, nothing, writes, says, followed}
+use Rattle.ct_machine.specs.Acts.Entries.{turned_cause, entering_with, entering}
 use Rattle.ct_law.proofs.Laws.{Laws}
 use Rattle.ct_law.proofs.Held.{IsSingle}
 use Rattle.ct_law.proofs.Tasks.{has_found}

@@ -5,6 +5,8 @@ use Rattle.std.specs.List.{list_any, filter}
 use Rattle.std.proofs.lemmas.Bool.{both_ways, cases_lt, or_left, or_right, and_parts, false≢true}
 use Rattle.ct_tmf.specs.declared.function.Ask.{Ask}
 use Rattle.ct_matrix.specs.Conflicts.{is_head}
+use Rattle.ct_matrix.specs.Queues.{before_first}
+use Rattle.ct_book.specs.Kept.{events_for}
 use Rattle.ct_book.specs.declared.work.Work.TheVariants as work
 use Rattle.ct_book.specs.declared.event.Kind2.{Kind2}
 use Rattle.ct_book.specs.declared.event.Kind2.TheVariants as kind
@@ -13,8 +15,13 @@ use Rattle.ct_book.specs.Journals.{KeptWork, numbered}
 use Rattle.ct_plan.specs.Cells.{Cells}
 use Rattle.ct_exec.specs.Controls.{tells_aborts}
 use Rattle.ct_exec.specs.Executions.{Execution, execute, plan_in}
-use Rattle.ct_machine.specs.States.{Stage, Waiting, Here, Granted, There, Over, Task, Open, Message, Arrival, State, disk_of, arrival_of, task_of, function_of, is_waiting, is_here, is_moving, is_b, without_task, with_task, at_stage, before_waiting, queued}
-use Rattle.ct_machine.specs.Events.{message, stop, to_b_if, came_at_b, answered, new_task, staged, cells_after, further, moved_from, leaves, over_at_b, stops_with, executed_at_once, ended_at, noted, cut_at, is_hit, is_awaited, awaited_by, is_told, wants_stop, stops_by, with_function, taken_up, without_function, closed, begun_at_b, entered}
+use Rattle.ct_machine.specs.States.{Stage, Waiting, Here, Granted, There, Over, Task, Open, Message, Arrival, State, disk_of, arrival_of, task_of, function_of, is_waiting, is_here, is_moving, is_b, without_task, with_task, at_stage, waits, queued}
+use Rattle.ct_machine.specs.Events.Sends.{message, stop, to_b_if, came_at_b, answered}
+use Rattle.ct_machine.specs.Events.Arrivals.{new_task, entered}
+use Rattle.ct_machine.specs.Events.Moves.{staged, cells_after, further, moved_from}
+use Rattle.ct_machine.specs.Events.Ends.{leaves, over_at_b, stops_with, executed_at_once, ended_at, noted, cut_at}
+use Rattle.ct_machine.specs.Events.Functions.{is_hit, is_awaited, awaited_by, is_told, wants_stop, stops_by, with_function, taken_up, without_function, closed}
+use Rattle.ct_machine.specs.Events.Deliveries.{begun_at_b}
 use Rattle.ct_law.proofs.Tasks.{Has, has_found}
 use Rattle.ct_law.proofs.Messages.{is_arrival, Sent}
 use Rattle.ct_law.proofs.Cleared.{count_cleared, stops_count}
@@ -57,7 +64,7 @@ weigh n arrivals (m ∷ ms) = message_weight n arrivals m + weigh n arrivals ms
 
 abbrev pub left_by : ℕ → (Task → ℕ) → State → ℕ
 left_by n g s =
-    s.room.pieces + 10 * s.room.commands + 12 * s.room.functions + total g s.tasks + weigh n s.arrivals s.to_a + length s.to_b + 2 * length s.functions
+    events_for s.room + total g s.tasks + weigh n s.arrivals s.to_a + length s.to_b + 2 * length s.functions
 
 abbrev pub left : ℕ → State → ℕ
 left n s = left_by n (weight n s.stopped) s
@@ -112,18 +119,18 @@ total_push : (g : Task → ℕ) (w : Task) (q : List Task) → total g (q ++ w �
 total_push g w [] = omega arith
 total_push g w (x ∷ xs) = let h = total_push g w xs in omega (arith, h)
 
-total_before : (g : Task → ℕ) (w : Task) (q : List Task) → total g (before_waiting w q) ≡ total g q + g w
+total_before : (g : Task → ℕ) (w : Task) (q : List Task) → total g (before_first waits w q) ≡ total g q + g w
 total_before g w [] = omega arith
 total_before g w (x ∷ xs) = go (is_waiting x.stage) (total_before g w xs)
   where
-    go : (t : Bool) → total g (before_waiting w xs) ≡ total g xs + g w → total g (cond t (w ∷ x ∷ xs) (x ∷ before_waiting w xs)) ≡ g x + total g xs + g w
+    go : (t : Bool) → total g (before_first waits w xs) ≡ total g xs + g w → total g (cond t (w ∷ x ∷ xs) (x ∷ before_first waits w xs)) ≡ g x + total g xs + g w
     go true h = omega arith
     go false h = omega (arith, h)
 
 pub total_queued : (g : Task → ℕ) (w : Task) (q : List Task) → total g (queued w q) ≡ total g q + g w
 total_queued g w q = go (is_head w.command.attr)
   where
-    go : (t : Bool) → total g (cond t (before_waiting w q) (q ++ w ∷ [])) ≡ total g q + g w
+    go : (t : Bool) → total g (cond t (before_first waits w q) (q ++ w ∷ [])) ≡ total g q + g w
     go true = total_before g w q
     go false = total_push g w q
 

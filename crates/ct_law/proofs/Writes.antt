@@ -20,12 +20,19 @@ use Rattle.ct_machine.specs.declared.act.Answer.TheVariants as answer
 use Rattle.ct_machine.specs.declared.act.Opening.{Opening}
 use Rattle.ct_machine.specs.States.{Stage, Waiting, Here, Granted, There, Over, Task, Message, State, task_of}
 use Rattle.ct_plan.specs.Pieces.{tried}
-use Rattle.ct_machine.specs.Acts.{Turn, nothing, followed, moving_on, failing_if, moved_to, moving_from, is_granted}
-use Rattle.ct_machine.specs.Acts.{beginning_at, beginning, Done, next_number, has_room_for, arriving_at, arriving}
-use Rattle.ct_machine.specs.Acts.{blocked_by, beginning_unless, stepping_at, is_sent, stepping, delivering_first}
-use Rattle.ct_machine.specs.Acts.{messages_to, delivering, next_step, stepping_next, doing_next, doing, act_of}
+use Rattle.ct_machine.specs.Acts.Turns.{Turn, nothing, followed}
+use Rattle.ct_machine.specs.Acts.Moves.{moving_on, failing_if, moved_to, moving_from}
+use Rattle.ct_machine.specs.Acts.Begins.{is_granted}
+use Rattle.ct_machine.specs.Acts.Begins.{beginning_at, beginning}
+use Rattle.ct_machine.specs.Acts.Answers.{Done}
+use Rattle.ct_machine.specs.Acts.Arrivals.{next_number, has_room_for, arriving_at, arriving}
+use Rattle.ct_machine.specs.Acts.Steps.{blocked_by, beginning_unless, stepping_at, is_sent, stepping}
+use Rattle.ct_machine.specs.Acts.Messages.{delivering_first}
+use Rattle.ct_machine.specs.Acts.Messages.{messages_to, delivering}
+use Rattle.ct_machine.specs.Acts.Next.{next_step, stepping_next, doing_next}
+use Rattle.ct_machine.specs.Acts.{doing, act_of}
 use Rattle.ct_machine.specs.Runs.{replay, IsAllowed}
-use Rattle.ct_machine.specs.Laws.{is_void, ActsWrite}
+use Rattle.ct_machine.specs.Laws.Live.{is_void, ActsWrite}
 use Rattle.ct_law.proofs.Blocks.{none_made}
 
 -- something was written

@@ -5,7 +5,15 @@ ghost use Rattle.ct_book.specs.declared.event.Logged.{Logged};
 ghost use Rattle.ct_machine.specs.declared.act.Opening.{Opening};
 ghost use Rattle.ct_machine.specs.Serial.{serial_disk};
 ghost use Rattle.ct_machine.specs.Runs.{replay, IsRun};
-ghost use Rattle.ct_machine.specs.Laws.{EachOnce, IsTyped, IsOrderly, MakesPlans, RecordsPrefix, IsByCells, IsRestricted, IsLegal, IsSound, IsTimely, IsLawful};
+ghost use Rattle.ct_machine.specs.Laws.Once.{EachOnce};
+ghost use Rattle.ct_machine.specs.Laws.Kinds.{IsTyped};
+ghost use Rattle.ct_machine.specs.Laws.Orderly.{IsOrderly};
+ghost use Rattle.ct_machine.specs.Laws.Cells.{MakesPlans, IsByCells};
+ghost use Rattle.ct_machine.specs.Laws.Prefix.{RecordsPrefix};
+ghost use Rattle.ct_machine.specs.Laws.Legal.{IsRestricted, IsLegal, IsSound};
+ghost use Rattle.ct_machine.specs.Laws.Timely.{IsTimely};
+ghost use Rattle.ct_machine.specs.Laws.Functions.{TellsOfCuts, AnswersFunctions, WaitsForFunctions, ClosesByNumber};
+ghost use Rattle.ct_machine.specs.Laws.{IsLawful};
 
 /// Every run is lawful: all of the laws below at once.
 pub fn every_run_is_lawful()
@@ -61,6 +69,28 @@ pub fn runs_are_by_cells()
 /// What a command clears is cut right behind its end, and no other command is cut by one (SPC-4, PREEMPT AND ABORT).
 pub fn runs_are_timely()
     ensures { (opening : Opening) (journal : List Logged) → IsRun opening journal → IsTimely opening journal }
+{}
+
+/// A command that a function cuts is told so exactly where TAS was 1 when the function was taken up (SPC-4, Control
+/// mode page), and another nexus than the command's asked.
+pub fn runs_tell_of_cuts()
+    ensures { (opening : Opening) (journal : List Logged) → IsRun opening journal → TellsOfCuts opening journal }
+{}
+
+/// A function is rejected exactly where 64 are open; one that is taken up is answered FUNCTION SUCCEEDED exactly where
+/// it is a query that finds a command of the task set, and else FUNCTION COMPLETE (SAM-5, clause 7).
+pub fn runs_answer_functions()
+    ensures { (opening : Opening) (journal : List Logged) → IsRun opening journal → AnswersFunctions opening journal }
+{}
+
+/// No command begins while a task management function is open.
+pub fn runs_wait_for_functions()
+    ensures { (opening : Opening) (journal : List Logged) → IsRun opening journal → WaitsForFunctions journal }
+{}
+
+/// Of functions that close in one act, the lower number goes first.
+pub fn runs_close_by_number()
+    ensures { (opening : Opening) (journal : List Logged) → IsRun opening journal → ClosesByNumber journal }
 {}
 
 /// All of a logical unit's disk but its blocks is at each time that of the serial execution.

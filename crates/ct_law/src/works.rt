@@ -5,10 +5,10 @@ ghost use Rattle.ct_book.specs.declared.event.Logged.{Logged};
 ghost use Rattle.ct_book.specs.Journals.{works_in};
 ghost use Rattle.ct_machine.specs.declared.act.Opening.{Opening};
 ghost use Rattle.ct_machine.specs.declared.act.Act.{Act};
-ghost use Rattle.ct_machine.specs.Events.{works_of};
+ghost use Rattle.ct_machine.specs.Events.Functions.{works_of};
 ghost use Rattle.ct_machine.specs.Acts.{act_of};
 ghost use Rattle.ct_machine.specs.Runs.{replay, IsRun};
-ghost use Rattle.ct_machine.specs.Laws.{Brings};
+ghost use Rattle.ct_machine.specs.Laws.Works.{Brings};
 
 /// Works come by arrivals alone: an arrival for which there is room takes its part of it, and no other act takes any.
 pub fn arrivals_alone_take_room()

@@ -1,5 +1,5 @@
 -- A command comes: the book notes it, and it enters the task set or is refused.
-use Rattle.std.proofs.Common.{◌≡◌, ℕ, ◌+◌, ◌-◌, ◌<◌, ◌≤◌, List, [], ◌∷◌, ◌++◌, Bool, true, false, ◌&&◌, ◌==◌, nat_le, nat_lt, inl, inr, Option, Some, None, IsNone, IsSomeAnd, is_some, Result, Ok, Err, length, sum_by, if◌then◌else◌, refl, sym, ap, ◌∙◌, subst, arith, append_assoc, ltb-true, leb-true}
+use Rattle.std.proofs.Common.{◌≡◌, ℕ, ◌+◌, ◌-◌, ◌<◌, ◌≤◌, List, [], ◌∷◌, ◌++◌, Bool, true, false, ◌&&◌, ◌==◌, nat_le, nat_lt, inl, inr, Option, Some, None, IsNone, IsSomeAnd, is_some, Result, Ok, Err, length, sum_by, if◌then◌else◌, refl, sym, ap, ◌∙◌, subst, arith, append_assoc, append-nil, ltb-true, leb-true}
 use Rattle.std.proofs.lemmas.Bool.{cases_Bool, false≢true}
 use Rattle.std.proofs.lemmas.List.{length-map}
 use Rattle.std.proofs.lemmas.List.Sums.{sum_by-cons}
@@ -8,6 +8,7 @@ use Rattle.ct_sense.specs.declared.reply.Reply.{Reply}
 use Rattle.ct_pool.specs.Leases.{PoolState}
 use Rattle.ct_plan.specs.Tasks.{IsReady}
 use Rattle.ct_matrix.specs.Conflicts.{is_head}
+use Rattle.ct_matrix.specs.Queues.{before_first}
 use Rattle.ct_book.specs.declared.work.Command.{Command}
 use Rattle.ct_book.specs.declared.work.Work.TheVariants as work
 use Rattle.ct_book.specs.declared.event.Event.TheVariants as event
@@ -18,9 +19,12 @@ use Rattle.ct_book.proofs.Places.{numbered-stays, numbered-last, numbered-within
 use Rattle.ct_exec.specs.Executions.{plan_in, need_in}
 use Rattle.ct_machine.specs.declared.act.Answer.{Answer}
 use Rattle.ct_machine.specs.declared.act.Answer.TheVariants as answer
-use Rattle.ct_machine.specs.States.{Task, State, task_set_of, before_waiting, queued, is_waiting}
-use Rattle.ct_machine.specs.Events.{after, after_events, new_task}
-use Rattle.ct_machine.specs.Acts.{Done, has_room_for, next_number, arriving, arriving_at, entering, entering_with, turned_cause, unchanged}
+use Rattle.ct_machine.specs.States.{Task, State, task_set_of, waits, queued, is_waiting}
+use Rattle.ct_machine.specs.Events.{after, after_events}
+use Rattle.ct_machine.specs.Events.Arrivals.{new_task}
+use Rattle.ct_machine.specs.Acts.Answers.{Done, unchanged}
+use Rattle.ct_machine.specs.Acts.Arrivals.{has_room_for, next_number, arriving, arriving_at}
+use Rattle.ct_machine.specs.Acts.Entries.{entering, entering_with, turned_cause}
 use Rattle.ct_lun.specs.declared.slot.Slot.{Slot}
 use Rattle.ct_lun.specs.declared.said.Entered.{Entered}
 use Rattle.ct_lun.specs.declared.said.Entered.TheVariants as entered
@@ -150,18 +154,18 @@ made_of f blocks named command size value made same known = made ∙ ap (λ n. f
 
 -- the room that a command takes
 
-sum_before : (g : Task → ℕ) (new : Task) (tasks : List Task) → sum_by g (before_waiting new tasks) ≡ sum_by g tasks + g new
+sum_before : (g : Task → ℕ) (new : Task) (tasks : List Task) → sum_by g (before_first waits new tasks) ≡ sum_by g tasks + g new
 sum_before g new [] = omega (arith, sum_by-cons g new [])
 sum_before g new (t ∷ ts) =
     elim (cases_Bool (is_waiting t.stage)) [
       | inl waits ↦ rw waits (omega (arith, sum_by-cons g new (t ∷ ts)))
-      | inr begun ↦ rw begun (omega (arith, sum_by-cons g t (before_waiting new ts), sum_by-cons g t ts, sum_before g new ts))
+      | inr begun ↦ rw begun (omega (arith, sum_by-cons g t (before_first waits new ts), sum_by-cons g t ts, sum_before g new ts))
     ]
 
 sum_queued : (g : Task → ℕ) (new : Task) (tasks : List Task) → sum_by g (queued new tasks) ≡ sum_by g tasks + g new
 sum_queued g new tasks = go (is_head new.command.attr)
   where
-    go : (head : Bool) → sum_by g (if head then before_waiting new tasks else tasks ++ new ∷ []) ≡ sum_by g tasks + g new
+    go : (head : Bool) → sum_by g (if head then before_first waits new tasks else tasks ++ new ∷ []) ≡ sum_by g tasks + g new
     go true = sum_before g new tasks
     go false = sum_push g tasks new
 
@@ -287,3 +291,50 @@ arrive_does d d' p p1 p' command pieces number result said a noted spare w agree
           let uncut = entering_uncut (turned_cause (state_of d p1) (command_in p1.works number)) number (state_of d p1) in
           rw journal (omega (arith, uncut));
     }
+
+-- a command for which there is no room
+
+add_err : {E : Type 0} (b : Bool) (result : Result ℕ E) (number : ℕ) (other left : E)
+    → result ≡ (if b then Ok number else Err other) → result ≡ Err left → (b ≡ false) × (other ≡ left)
+add_err true result number other left answer err = absurd (cc)
+add_err false result number other left answer err = (refl, cc)
+
+no_room : (d : Desk) (p p1 : BookState) (command : Command) (pieces : ℕ) → AgreesWith d p
+    → pieces ≡ length (plan_in (length d.blocks) command) → has_room p (work.Cmd command) pieces ≡ false → p1 ≡ p
+    → Does d d p p1 (λ (fault : Option ℕ). arriving A (work.Cmd command) (state_of d p))
+    (answer.NoRoom (work.Cmd command))
+no_room d p p1 command pieces agrees counted full kept =
+    let s = state_of d p in
+    let came = work.Cmd command in
+    let test : has_room_for came s ≡ false =
+    subst (λ (n : ℕ). (nat_lt 0 p.commands && nat_le n p.pieces) ≡ false) counted full in
+    let done : arriving A came s ≡ unchanged (answer.NoRoom came) s =
+    ap (λ (t : Bool). if t then arriving_at A came (next_number s) s else unchanged (answer.NoRoom came) s) test in
+    subst (λ (book : BookState). Does d d p book (λ (fault : Option ℕ). arriving A came s) (answer.NoRoom came))
+    (sym kept)
+    (subst (λ (outcome : Done). Does d d p p (λ (fault : Option ℕ). outcome) (answer.NoRoom came)) (sym done)
+    (record {
+      fault = None;
+      journal = sym (append-nil p.journal);
+      answer = refl;
+      state = refl;
+      agrees = agrees;
+      spare = omega arith;
+      room = omega arith;
+      counted = omega arith;
+      cuts = refl;
+    }))
+
+pub refused_does : (d : Desk) (p p1 : BookState) (command : Command) (pieces number : ℕ)
+    (result : Result ℕ KeptWork) (left : KeptWork) → AgreesWith d p
+    → pieces ≡ length (plan_in (length d.blocks) command)
+    → result ≡ (if has_room p (work.Cmd command) pieces then Ok number else Err (work.Cmd command))
+    → p1 ≡ (if has_room p (work.Cmd command) pieces then with_work p A (work.Cmd command) pieces else p)
+    → result ≡ Err left
+    → Does d d p p1 (λ (fault : Option ℕ). arriving A (work.Cmd command) (state_of d p)) (answer.NoRoom left)
+refused_does d p p1 command pieces number result left agrees counted answered after err =
+    let told = add_err (has_room p (work.Cmd command) pieces) result number (work.Cmd command) left answered err in
+    let kept : p1 ≡ p =
+    after ∙ ap (λ (b : Bool). if b then with_work p A (work.Cmd command) pieces else p) told.0 in
+    subst (λ (w : KeptWork). Does d d p p1 (λ (fault : Option ℕ). arriving A (work.Cmd command) (state_of d p))
+    (answer.NoRoom w)) told.1 (no_room d p p1 command pieces agrees counted told.0 kept)

@@ -17,7 +17,11 @@ use Rattle.ct_exec.specs.Executions.{Execution, execute, executed, refusal_of, r
 use Rattle.ct_exec.specs.Refusals.{refused_reply}
 use Rattle.ct_machine.specs.declared.act.Answer.TheVariants as answer
 use Rattle.ct_machine.specs.States.{Here, Task, Arrival, State, disk_of, arrival_of}
-use Rattle.ct_machine.specs.Acts.{Turn, followed, says, replies, ends, moved_answer, moving_from, line_by, ending_at_once, clearing_all, numbers_of, beginning}
+use Rattle.ct_machine.specs.Acts.Turns.{Turn, followed, says, replies}
+use Rattle.ct_machine.specs.Acts.Answers.{ends, moved_answer, line_by}
+use Rattle.ct_machine.specs.Acts.Moves.{moving_from}
+use Rattle.ct_machine.specs.Acts.Begins.{ending_at_once, clearing_all, beginning}
+use Rattle.ct_machine.specs.Acts.Functions.{numbers_of}
 use Rattle.ct_lun.specs.declared.slot.Slot.{Slot}
 use Rattle.ct_lun.specs.declared.said.Stepped.{Stepped}
 use Rattle.ct_lun.specs.declared.said.Stepped.TheVariants as stepped

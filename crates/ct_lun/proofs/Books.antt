@@ -15,8 +15,8 @@ use Rattle.ct_lun.proofs.Tasks.{begun_stage}
 use Rattle.ct_lun.proofs.Effects.{reply_kept}
 
 pub can_close : (p : BookState) (number : ℕ) (reply : Reply) (e : Event) → IsCommandNo p number → numbered number p.replies ≡ Some None → IsOver number e → CanBePushed (with_reply p number reply) e
-can_close p number reply e command unanswered by_end = (command, rw (reply_kept p number reply unanswered) refl)
-can_close p number reply e command unanswered (by_medium puts) = (command, rw (reply_kept p number reply unanswered) refl)
+can_close p number reply e command unanswered by_end = (command, tt, rw (reply_kept p number reply unanswered) refl)
+can_close p number reply e command unanswered (by_medium puts) = (command, tt, rw (reply_kept p number reply unanswered) refl)
 
 pub is_command_no : (d : Desk) (p : BookState) (at : ℕ) → Agrees d p → at < length d.slots → IsCommandNo p (slot_at d.slots at).no
 is_command_no d p at a h =

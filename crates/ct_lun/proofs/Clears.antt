@@ -10,8 +10,11 @@ use Rattle.ct_book.specs.declared.event.Logged.{Logged}
 use Rattle.ct_book.specs.Journals.{KeptWork, BookState, with_event}
 use Rattle.ct_exec.specs.Controls.{tells_aborts}
 use Rattle.ct_machine.specs.States.{Stage, Task, State, is_waiting, task_of}
-use Rattle.ct_machine.specs.Events.{after_event, after_events, cut_at, leaves, is_cleared}
-use Rattle.ct_machine.specs.Acts.{Turn, nothing, says, followed, numbers_of, clearing, clearing_all}
+use Rattle.ct_machine.specs.Events.{after_event, after_events}
+use Rattle.ct_machine.specs.Events.Ends.{cut_at, leaves, is_cleared}
+use Rattle.ct_machine.specs.Acts.Turns.{Turn, nothing, says, followed}
+use Rattle.ct_machine.specs.Acts.Functions.{numbers_of}
+use Rattle.ct_machine.specs.Acts.Begins.{clearing, clearing_all}
 use Rattle.ct_lun.specs.declared.slot.Slot.{Slot}
 use Rattle.ct_lun.specs.Desk.{Desk, slot_at, number_of}
 use Rattle.ct_lun.specs.States.{task_in, tasks_in, state_of}

@@ -19,7 +19,8 @@ use Rattle.ct_exec.specs.Executions.{plan_in}
 use Rattle.ct_machine.specs.declared.act.Answer.{Answer}
 use Rattle.ct_machine.specs.declared.act.Answer.TheVariants as answer
 use Rattle.ct_machine.specs.Events.{after_events}
-use Rattle.ct_machine.specs.Acts.{Done, ends, moved_answer, moving_on, moving_from}
+use Rattle.ct_machine.specs.Acts.Answers.{Done, ends, moved_answer}
+use Rattle.ct_machine.specs.Acts.Moves.{moving_on, moving_from}
 use Rattle.ct_lun.specs.declared.slot.Slot.{Slot}
 use Rattle.ct_lun.specs.Apart.{Each}
 use Rattle.ct_lun.specs.Desk.{Desk, slot_at, blank}

@@ -13,7 +13,9 @@ use Rattle.ct_book.specs.Journals.{KeptWork, BookState, numbered, with_event, wi
 use Rattle.ct_exec.specs.Controls.{ControlState, tells_aborts, is_unrestricted}
 use Rattle.ct_exec.specs.Executions.{Execution, execute}
 use Rattle.ct_machine.specs.States.{Stage, Waiting, Here, Task, Message, State, disk_of, arrival_of, task_of, without_task, with_task, at_stage, is_b}
-use Rattle.ct_machine.specs.Events.{after, after_events, after_event, ended_at, cut_at, answered, came_at_b, leaves, stop, is_cleared, stops_with}
+use Rattle.ct_machine.specs.Events.{after, after_events, after_event}
+use Rattle.ct_machine.specs.Events.Ends.{ended_at, cut_at, leaves, is_cleared, stops_with}
+use Rattle.ct_machine.specs.Events.Sends.{answered, came_at_b, stop}
 use Rattle.ct_lun.specs.declared.slot.Slot.{Slot}
 use Rattle.ct_lun.specs.Apart.{Each}
 use Rattle.ct_lun.specs.Desk.{Desk, slot_at, with_control}

@@ -1,5 +1,5 @@
 -- A command enters the task set, or is refused at its arrival.
-use Rattle.std.proofs.Common.{◌≡◌, ℕ, zero, suc, ◌+◌, ◌-◌, ◌<◌, ◌≤◌, List, [], ◌∷◌, ◌++◌, Bool, true, false, ◌||◌, ◌==◌, inl, inr, Option, Some, None, IsNone, IsSomeAnd, Result, length, map, slice_set, insert, sum_by, if◌then◌else◌, refl, sym, ap, ◌∙◌, subst, arith, length-append}
+use Rattle.std.proofs.Common.{◌≡◌, ℕ, zero, suc, ◌+◌, ◌-◌, ◌<◌, ◌≤◌, List, [], ◌∷◌, ◌++◌, Bool, true, false, ◌||◌, ◌==◌, inl, inr, Option, Some, None, IsNone, IsSomeAnd, Result, length, map, slice_set, sum_by, if◌then◌else◌, refl, sym, ap, ◌∙◌, subst, arith, length-append}
 use Rattle.std.specs.List.{list_any}
 use Rattle.std.proofs.lemmas.Bool.{cases_Bool, false≢true}
 use Rattle.std.proofs.lemmas.List.{length-map}
@@ -20,7 +20,8 @@ use Rattle.ct_plan.proofs.Planned.{ready_first}
 use Rattle.ct_matrix.specs.declared.held.Held.{Held}
 use Rattle.ct_matrix.specs.declared.held.HeldCommand.{HeldCommand}
 use Rattle.ct_matrix.specs.Conflicts.{is_head}
-use Rattle.ct_matrix.specs.Queues.{TaskSet, placed, command_of}
+use Rattle.ct_matrix.specs.Queues.{TaskSet, placed, before_first, command_of}
+use Rattle.ct_matrix.proofs.Places.{insert_first, first_within}
 use Rattle.ct_book.specs.declared.work.Command.{Command}
 use Rattle.ct_book.specs.declared.work.Work.TheVariants as work
 use Rattle.ct_book.specs.declared.event.Event.TheVariants as event
@@ -30,28 +31,31 @@ use Rattle.ct_book.specs.Kept.{IsCommandNo, IsBodyOf}
 use Rattle.ct_book.proofs.Places.{numbered-apart}
 use Rattle.ct_exec.specs.Executions.{plan_in, need_in}
 use Rattle.ct_machine.specs.States.{Task, Arrival, held_of, held_by, queued, free_blocks}
-use Rattle.ct_machine.specs.Events.{after_event, after_enter, new_task}
-use Rattle.ct_machine.specs.Acts.{is_overlapped, turned_cause, entering, entering_with}
+use Rattle.ct_machine.specs.Events.{after_event}
+use Rattle.ct_machine.specs.Events.Arrivals.{after_enter, new_task}
+use Rattle.ct_machine.specs.Entrances.{Sender, sender_of, is_same_sender}
+use Rattle.ct_machine.specs.Acts.Entries.{turned_cause, entering, entering_with}
 use Rattle.ct_lun.specs.declared.slot.Slot.{Slot}
 use Rattle.ct_lun.specs.Apart.{Each, Differs, IsApart}
-use Rattle.ct_lun.specs.Desk.{Desk, number_of, key_of, slot_of, waiting_from, placed_slot}
+use Rattle.ct_lun.specs.Desk.{Desk, number_of, key_of, slot_of, waits, waiting_from, placed_slot}
 use Rattle.ct_lun.specs.States.{command_in, command_by, at_a, task_in, tasks_in, state_of}
 use Rattle.ct_lun.specs.Agreement.{SlotAgrees, IsLeft, Agrees, AgreesWith}
-use Rattle.ct_lun.specs.Overlaps.{is_overlapped_by, cause_by}
+use Rattle.ct_lun.specs.Overlaps.{sender_of_slot, is_sent_by, cause_by}
 use Rattle.ct_lun.specs.Calls.{Wrote, told, replied}
-use Rattle.ct_lun.proofs.Lists.{same_number, each_step, each_differs, each_push, each_insert, apart_push, apart_insert, map_push, map_insert, sum_push, sum_insert, waiting_within}
+use Rattle.ct_lun.proofs.Lists.{same_number, each_step, each_differs, each_push, each_insert, apart_push, apart_insert, map_push, map_insert, sum_push, sum_insert}
 use Rattle.ct_lun.proofs.Tasks.{held_queued, slots_queued, no_task, held_none}
 use Rattle.ct_lun.proofs.Keeps.{get_map, slot_stays, set_is, other_number, positive}
 use Rattle.ct_lun.proofs.Effects.{came_here, answered_here, reply_kept, after_one, after_told}
 
 -- why a command is refused
 
-overlaps_same : (blocks : ℕ) (pool : PoolState) (works : List KeptWork) (replies : List (Option Reply)) (command : Command) (slots : List Slot) → Each (SlotAgrees blocks pool works replies) slots
-    → list_any (is_overlapped command) (tasks_in works slots) ≡ list_any (is_overlapped_by command.nexus command.tag) slots
-overlaps_same blocks pool works replies command [] each = refl
-overlaps_same blocks pool works replies command (x ∷ xs) each =
-    let here : is_overlapped command (task_in works x) ≡ is_overlapped_by command.nexus command.tag x = rw (each.0.nexus, each.0.tag) refl in
-    ap (λ (b : Bool). b || list_any (is_overlapped command) (tasks_in works xs)) here ∙ ap (λ (b : Bool). is_overlapped_by command.nexus command.tag x || b) (overlaps_same blocks pool works replies command xs each.1)
+sent_same : (blocks : ℕ) (pool : PoolState) (works : List KeptWork) (replies : List (Option Reply)) (sender : Sender) (slots : List Slot) → Each (SlotAgrees blocks pool works replies) slots
+    → list_any (λ (task : Task). is_same_sender sender (sender_of task.command)) (tasks_in works slots) ≡ is_sent_by sender slots
+sent_same blocks pool works replies sender [] each = refl
+sent_same blocks pool works replies sender (x ∷ xs) each =
+    let here : sender_of (command_in works x.no) ≡ sender_of_slot x = rw (each.0.nexus, each.0.tag) refl in
+    ap (λ (by : Sender). is_same_sender sender by || list_any (λ (task : Task). is_same_sender sender (sender_of task.command)) (tasks_in works xs)) here
+    ∙ ap (λ (rest : Bool). is_same_sender sender (sender_of_slot x) || rest) (sent_same blocks pool works replies sender xs each.1)
 
 pub commands_count : (d : Desk) (p : BookState) → Agrees d p → length d.set.commands ≡ length d.slots
 commands_count d p a =
@@ -63,11 +67,11 @@ tasks_count d p = length-map d.slots (task_in p.works)
 pub free_known : (d : Desk) (p : BookState) → Agrees d p → free_blocks (state_of d p) ≡ d.pool.free
 free_known d p a = omega (arith, a.free)
 
-pub cause_known : (d : Desk) (p : BookState) (command : Command) (need : ℕ) → Agrees d p → need ≡ need_in (length d.blocks) command → cause_by d command.nexus command.tag need ≡ turned_cause (state_of d p) command
+pub cause_known : (d : Desk) (p : BookState) (command : Command) (need : ℕ) → Agrees d p → need ≡ need_in (length d.blocks) command → cause_by d (sender_of command) need ≡ turned_cause (state_of d p) command
 unfolding turned_cause
 cause_known d p command need a same =
-    let overlaps = overlaps_same (length d.blocks) d.pool p.works p.replies command d.slots a.each in
-    rw (overlaps, free_known d p a, ← same, tasks_count d p, commands_count d p a) refl
+    let sent = sent_same (length d.blocks) d.pool p.works p.replies (sender_of command) d.slots a.each in
+    rw (sent, free_known d p a, ← same, tasks_count d p, commands_count d p a) refl
 
 -- a number that no slot has
 
@@ -156,29 +160,29 @@ keys_differ blocks pool pool' works replies need lease (x ∷ xs) each t = (key_
 each_placed : (P : Slot → Type 0) (attr : Attr2) (new : Slot) (slots : List Slot) → Each P slots → P new → Each P (placed_slot attr new slots)
 each_placed P attr new slots each fact = go (is_head attr)
   where
-    go : (head : Bool) → Each P (if head then insert slots (waiting_from slots) new else slots ++ new ∷ [])
-    go true = each_insert P slots (waiting_from slots) new each fact
+    go : (head : Bool) → Each P (if head then before_first waits new slots else slots ++ new ∷ [])
+    go true = rw (← insert_first waits new slots) (each_insert P slots (waiting_from slots) new each fact)
     go false = each_push P slots new each fact
 
 apart_placed : (f : Slot → ℕ) (attr : Attr2) (new : Slot) (slots : List Slot) → IsApart (map f slots) → Differs (f new) (map f slots) → IsApart (map f (placed_slot attr new slots))
 apart_placed f attr new slots apart fresh = go (is_head attr)
   where
-    go : (head : Bool) → IsApart (map f (if head then insert slots (waiting_from slots) new else slots ++ new ∷ []))
-    go true = rw (map_insert f slots (waiting_from slots) new) (apart_insert (map f slots) (waiting_from slots) (f new) apart fresh)
+    go : (head : Bool) → IsApart (map f (if head then before_first waits new slots else slots ++ new ∷ []))
+    go true = rw (← insert_first waits new slots, map_insert f slots (waiting_from slots) new) (apart_insert (map f slots) (waiting_from slots) (f new) apart fresh)
     go false = rw (map_push f slots new) (apart_push (map f slots) (f new) apart fresh)
 
 sum_placed : (g : Task → ℕ) (works : List KeptWork) (attr : Attr2) (new : Slot) (slots : List Slot) → sum_by g (tasks_in works (placed_slot attr new slots)) ≡ sum_by g (tasks_in works slots) + g (task_in works new)
 sum_placed g works attr new slots = go (is_head attr)
   where
-    go : (head : Bool) → sum_by g (tasks_in works (if head then insert slots (waiting_from slots) new else slots ++ new ∷ [])) ≡ sum_by g (tasks_in works slots) + g (task_in works new)
-    go true = ap (sum_by g) (map_insert (task_in works) slots (waiting_from slots) new) ∙ sum_insert g (tasks_in works slots) (waiting_from slots) (task_in works new)
+    go : (head : Bool) → sum_by g (tasks_in works (if head then before_first waits new slots else slots ++ new ∷ [])) ≡ sum_by g (tasks_in works slots) + g (task_in works new)
+    go true = ap (λ all. sum_by g (tasks_in works all)) (sym (insert_first waits new slots)) ∙ ap (sum_by g) (map_insert (task_in works) slots (waiting_from slots) new) ∙ sum_insert g (tasks_in works slots) (waiting_from slots) (task_in works new)
     go false = ap (sum_by g) (map_push (task_in works) slots new) ∙ sum_push g (tasks_in works slots) (task_in works new)
 
 pub length_placed : (attr : Attr2) (new : Slot) (slots : List Slot) → length (placed_slot attr new slots) ≡ length slots + 1
 length_placed attr new slots = go (is_head attr)
   where
-    go : (head : Bool) → length (if head then insert slots (waiting_from slots) new else slots ++ new ∷ []) ≡ length slots + 1
-    go true = length-insert slots (waiting_from slots) new (waiting_within slots)
+    go : (head : Bool) → length (if head then before_first waits new slots else slots ++ new ∷ []) ≡ length slots + 1
+    go true = rw (← insert_first waits new slots) (length-insert slots (waiting_from slots) new (first_within waits slots))
     go false = omega (arith, length-append slots (new ∷ []))
 
 pub numbered_map : {A B : Type 0} (f : A → B) (number : ℕ) (xs : List A) (x : A) → numbered number xs ≡ Some x → numbered number (map f xs) ≡ Some (f x)

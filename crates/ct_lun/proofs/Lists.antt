@@ -5,7 +5,7 @@ use Rattle.std.proofs.lemmas.List.Sums.{sum_by-cons, prefix_len-le-length}
 use Rattle.std.proofs.lemmas.Option.{slice_get-get_or}
 use Rattle.ct_lun.specs.declared.slot.Slot.{Slot}
 use Rattle.ct_lun.specs.Apart.{Each, Differs, IsApart}
-use Rattle.ct_lun.specs.Desk.{blank, slot_at, place_of, waiting_from}
+use Rattle.ct_lun.specs.Desk.{blank, slot_at, place_of}
 
 pub turned : (a b : ℕ) → (a == b) ≡ false → (b == a) ≡ false
 turned a b h = grind (arith, nat_tests)
@@ -15,9 +15,6 @@ same_number a b h = grind (arith, nat_tests)
 
 pub equal_number : (a : ℕ) → (a == a) ≡ true
 equal_number a = grind (arith, nat_tests)
-
-pub waiting_within : (slots : List Slot) → waiting_from slots ≤ length slots
-waiting_within slots = prefix_len-le-length (λ (slot : Slot). not (not slot.begun)) slots
 
 pub place_within : (number : ℕ) (slots : List Slot) → place_of number slots ≤ length slots
 place_within number slots = prefix_len-le-length (λ (slot : Slot). not (slot.no == number)) slots

@@ -9,7 +9,8 @@ use Rattle.ct_plan.specs.Pieces.{fault_in, tried}
 use Rattle.ct_book.specs.Journals.{BookState}
 use Rattle.ct_exec.specs.Executions.{plan_in}
 use Rattle.ct_machine.specs.States.{Stage, Here, Task, State, task_of, with_task, at_stage}
-use Rattle.ct_machine.specs.Events.{after, after_events, after_moved, moved_at, cells_after}
+use Rattle.ct_machine.specs.Events.{after, after_events}
+use Rattle.ct_machine.specs.Events.Moves.{after_moved, moved_at, cells_after}
 use Rattle.ct_lun.specs.declared.slot.Slot.{Slot}
 use Rattle.ct_lun.specs.Desk.{Desk, slot_at}
 use Rattle.ct_lun.specs.States.{command_in, stage_of, task_in, tasks_in, state_of}

@@ -20,7 +20,8 @@ use Rattle.ct_book.specs.Journals.{BookState}
 use Rattle.ct_exec.specs.Executions.{good, reply_moved, reply_failed, plan_in}
 use Rattle.ct_machine.specs.declared.act.Answer.TheVariants as answer
 use Rattle.ct_machine.specs.States.{State, arrival_of}
-use Rattle.ct_machine.specs.Acts.{ends, moved_answer, moved_to, moving_on, moving_from, line_by}
+use Rattle.ct_machine.specs.Acts.Answers.{ends, moved_answer, line_by}
+use Rattle.ct_machine.specs.Acts.Moves.{moved_to, moving_on, moving_from}
 use Rattle.ct_lun.specs.declared.slot.Slot.{Slot}
 use Rattle.ct_lun.specs.Desk.{Desk, slot_at}
 use Rattle.ct_lun.specs.States.{command_in, task_in, state_of}

@@ -7,7 +7,9 @@ use Rattle.ct_matrix.specs.Queues.{TaskSet, command_of, blocker_of, next_ready_o
 use Rattle.ct_book.specs.Journals.{KeptWork, BookState}
 use Rattle.ct_machine.specs.declared.act.Answer.TheVariants as answer
 use Rattle.ct_machine.specs.States.{Stage, Waiting, Here, Task, task_of, task_set_of, held_of, is_moving}
-use Rattle.ct_machine.specs.Acts.{Done, unchanged, stepping_at, stepping, beginning_unless, first_moving, first_some, next_step, stepping_next}
+use Rattle.ct_machine.specs.Acts.Answers.{Done, unchanged, first_some}
+use Rattle.ct_machine.specs.Acts.Steps.{stepping_at, stepping, beginning_unless}
+use Rattle.ct_machine.specs.Acts.Next.{first_moving, next_step, stepping_next}
 use Rattle.ct_lun.specs.declared.slot.Slot.{Slot}
 use Rattle.ct_lun.specs.Desk.{Desk, slot_at, slot_of, place_of}
 use Rattle.ct_lun.specs.States.{stage_of, task_in, tasks_in, state_of}

@@ -1,15 +1,16 @@
 -- The tasks of the machine's state and the task set, where the slots of a unit change.
-use Rattle.std.proofs.Common.{◌≡◌, ℕ, zero, suc, List, [], ◌∷◌, ◌++◌, Bool, true, false, not, ◌==◌, inl, inr, Some, None, IsNone, map, slice_get, slice_set, insert, remove, if◌then◌else◌, refl, sym, ap, ◌∙◌, subst, arith}
+use Rattle.std.proofs.Common.{◌≡◌, ℕ, zero, suc, List, [], ◌∷◌, ◌++◌, Bool, true, false, not, ◌==◌, inl, inr, Some, None, IsNone, map, slice_get, slice_set, remove, if◌then◌else◌, refl, sym, ap, ◌∙◌, subst}
 use Rattle.std.proofs.lemmas.Bool.{cases_Bool, false≢true}
 use Rattle.ct_cdb.specs.declared.op.Attr2.{Attr2}
 use Rattle.ct_matrix.specs.declared.held.HeldCommand.{HeldCommand}
 use Rattle.ct_matrix.specs.Conflicts.{is_head}
-use Rattle.ct_matrix.specs.Queues.{command_of, without, with_begun, placed, before_waiting as before_waiting_held}
+use Rattle.ct_matrix.specs.Queues.{command_of, without, with_begun, placed, before_first, waits_yet}
+use Rattle.ct_matrix.proofs.Places.{map_first}
 use Rattle.ct_book.specs.Journals.{KeptWork}
-use Rattle.ct_machine.specs.States.{Waiting, Here, Task, task_of, without_task, with_task, is_waiting, has_begun, held_of, before_waiting, queued}
+use Rattle.ct_machine.specs.States.{Stage, Waiting, Here, Granted, There, Over, Task, task_of, without_task, with_task, is_waiting, has_begun, held_of, queued, waits as task_waits}
 use Rattle.ct_lun.specs.declared.slot.Slot.{Slot}
 use Rattle.ct_lun.specs.Apart.{Differs, IsApart}
-use Rattle.ct_lun.specs.Desk.{number_of, slot_of, waiting_from, placed_slot}
+use Rattle.ct_lun.specs.Desk.{number_of, slot_of, waits, placed_slot}
 use Rattle.ct_lun.specs.States.{stage_of, task_in, tasks_in, command_in}
 use Rattle.ct_lun.proofs.Lists.{equal_number, differs_at, turned, map_push}
 
@@ -112,32 +113,19 @@ begun_at blocks works (x ∷ xs) (suc at) slot apart read =
 
 -- a command enters
 
-before_begun : (new t : Task) (ts : List Task) → is_waiting t.stage ≡ false → before_waiting new (t ∷ ts) ≡ t ∷ before_waiting new ts
-before_begun new t ts h = rw h refl
-
-before_waits : (new t : Task) (ts : List Task) → is_waiting t.stage ≡ true → before_waiting new (t ∷ ts) ≡ new ∷ t ∷ ts
-before_waits new t ts h = rw h refl
-
-held_begun : (blocks : ℕ) (new t : Task) (held : List HeldCommand) → is_waiting t.stage ≡ false → before_waiting_held (held_of blocks new) (held_of blocks t ∷ held) ≡ held_of blocks t ∷ before_waiting_held (held_of blocks new) held
-held_begun blocks new t held h = rw h refl
-
-held_waits : (blocks : ℕ) (new t : Task) (held : List HeldCommand) → is_waiting t.stage ≡ true → before_waiting_held (held_of blocks new) (held_of blocks t ∷ held) ≡ held_of blocks new ∷ held_of blocks t ∷ held
-held_waits blocks new t held h = rw h refl
-
-held_before : (blocks : ℕ) (new : Task) (tasks : List Task) → map (held_of blocks) (before_waiting new tasks) ≡ before_waiting_held (held_of blocks new) (map (held_of blocks) tasks)
-held_before blocks new [] = refl
-held_before blocks new (t ∷ ts) =
-    elim (cases_Bool (is_waiting t.stage)) [
-      | inl waits ↦ ap (map (held_of blocks)) (before_waits new t ts waits) ∙ sym (held_waits blocks new t (map (held_of blocks) ts) waits)
-      | inr begun ↦
-          ap (map (held_of blocks)) (before_begun new t ts begun) ∙ ap (λ (rest : List HeldCommand). held_of blocks t ∷ rest) (held_before blocks new ts)
-          ∙ sym (held_begun blocks new t (map (held_of blocks) ts) begun)
-    ]
+held_before : (blocks : ℕ) (new : Task) (tasks : List Task) → map (held_of blocks) (before_first task_waits new tasks) ≡ before_first waits_yet (held_of blocks new) (map (held_of blocks) tasks)
+held_before blocks new tasks = map_first (held_of blocks) task_waits waits_yet new tasks (λ task. same task.stage) where
+  same : (stage : Stage) → not (has_begun stage) ≡ is_waiting stage
+  same Waiting = refl
+  same (Here done got) = refl
+  same Granted = refl
+  same (There done got) = refl
+  same Over = refl
 
 pub held_queued : (blocks : ℕ) (new : Task) (tasks : List Task) → map (held_of blocks) (queued new tasks) ≡ placed (held_of blocks new) (map (held_of blocks) tasks)
 held_queued blocks new tasks = go (is_head new.command.attr)
   where
-    go : (head : Bool) → map (held_of blocks) (if head then before_waiting new tasks else tasks ++ new ∷ []) ≡ (if head then before_waiting_held (held_of blocks new) (map (held_of blocks) tasks) else map (held_of blocks) tasks ++ held_of blocks new ∷ [])
+    go : (head : Bool) → map (held_of blocks) (if head then before_first task_waits new tasks else tasks ++ new ∷ []) ≡ (if head then before_first waits_yet (held_of blocks new) (map (held_of blocks) tasks) else map (held_of blocks) tasks ++ held_of blocks new ∷ [])
     go true = held_before blocks new tasks
     go false = map_push (held_of blocks) tasks new
 
@@ -148,22 +136,12 @@ waiting_stage slot = go slot.begun
     go true = refl
     go false = refl
 
-slots_before : (works : List KeptWork) (new : Slot) (slots : List Slot) → before_waiting (task_in works new) (tasks_in works slots) ≡ tasks_in works (insert slots (waiting_from slots) new)
-slots_before works new [] = refl
-slots_before works new (x ∷ xs) =
-    elim (cases_Bool x.begun) [
-      | inl begun ↦
-          let place : waiting_from (x ∷ xs) ≡ suc (waiting_from xs) = rw begun (omega arith) in
-          before_begun (task_in works new) (task_in works x) (tasks_in works xs) (waiting_stage x ∙ ap not begun) ∙ ap (λ (rest : List Task). task_in works x ∷ rest) (slots_before works new xs)
-          ∙ sym (ap (λ (at : ℕ). tasks_in works (insert (x ∷ xs) at new)) place)
-      | inr waits ↦
-          let place : waiting_from (x ∷ xs) ≡ 0 = rw waits refl in
-          before_waits (task_in works new) (task_in works x) (tasks_in works xs) (waiting_stage x ∙ ap not waits) ∙ sym (ap (λ (at : ℕ). tasks_in works (insert (x ∷ xs) at new)) place)
-    ]
+slots_before : (works : List KeptWork) (new : Slot) (slots : List Slot) → before_first task_waits (task_in works new) (tasks_in works slots) ≡ tasks_in works (before_first waits new slots)
+slots_before works new slots = sym (map_first (task_in works) waits task_waits new slots waiting_stage)
 
 pub slots_queued : (works : List KeptWork) (attr : Attr2) (new : Slot) (slots : List Slot) → attr ≡ (command_in works new.no).attr → queued (task_in works new) (tasks_in works slots) ≡ tasks_in works (placed_slot attr new slots)
 slots_queued works attr new slots same = rw (← same) (go (is_head attr))
   where
-    go : (head : Bool) → (if head then before_waiting (task_in works new) (tasks_in works slots) else tasks_in works slots ++ task_in works new ∷ []) ≡ tasks_in works (if head then insert slots (waiting_from slots) new else slots ++ new ∷ [])
+    go : (head : Bool) → (if head then before_first task_waits (task_in works new) (tasks_in works slots) else tasks_in works slots ++ task_in works new ∷ []) ≡ tasks_in works (if head then before_first waits new slots else slots ++ new ∷ [])
     go true = slots_before works new slots
     go false = sym (map_push (task_in works) slots new)

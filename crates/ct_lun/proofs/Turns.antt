@@ -23,9 +23,13 @@ use Rattle.ct_book.specs.declared.event.Logged.{Logged}
 use Rattle.ct_exec.specs.Executions.{good, reply_failed, plan_in}
 use Rattle.ct_machine.specs.declared.act.Answer.TheVariants as answer
 use Rattle.ct_machine.specs.States.{Stage, Task, State, at_stage, is_waiting, task_of, arrival_of}
-use Rattle.ct_machine.specs.Events.{after_events, is_cleared}
-use Rattle.ct_machine.specs.Acts.{Turn, followed, moving_on, moved_to, failing, moving_from, ends, moved_answer}
-use Rattle.ct_machine.specs.Acts.{line_by, clearing, clearing_all}
+use Rattle.ct_machine.specs.Events.{after_events}
+use Rattle.ct_machine.specs.Events.Ends.{is_cleared}
+use Rattle.ct_machine.specs.Acts.Turns.{Turn, followed}
+use Rattle.ct_machine.specs.Acts.Moves.{moving_on, moved_to, failing, moving_from}
+use Rattle.ct_machine.specs.Acts.Answers.{ends, moved_answer}
+use Rattle.ct_machine.specs.Acts.Answers.{line_by}
+use Rattle.ct_machine.specs.Acts.Begins.{clearing, clearing_all}
 use Rattle.ct_lun.specs.Calls.{told, replied, moved_journal}
 use Rattle.ct_lun.proofs.Lists.{equal_number}
 

@@ -3,7 +3,11 @@ use Rattle.std.specs.Prelude.{ℕ, length, Option}
 use Rattle.ct_book.specs.Journals.{BookState}
 use Rattle.ct_exec.specs.Executions.{refusal_of, plan_in}
 use Rattle.ct_machine.specs.States.{task_of}
-use Rattle.ct_machine.specs.Acts.{Done, moved, moving_from, beginning, stepping, stepping_at, stepping_next, next_step}
+use Rattle.ct_machine.specs.Acts.Answers.{Done}
+use Rattle.ct_machine.specs.Acts.Steps.{moved, stepping, stepping_at}
+use Rattle.ct_machine.specs.Acts.Moves.{moving_from}
+use Rattle.ct_machine.specs.Acts.Begins.{beginning}
+use Rattle.ct_machine.specs.Acts.Next.{stepping_next, next_step}
 use Rattle.ct_lun.specs.Desk.{Desk, slot_at}
 use Rattle.ct_lun.specs.States.{task_in, state_of}
 

@@ -19,7 +19,8 @@ use Rattle.ct_machine.specs.declared.act.Answer.{Answer}
 use Rattle.ct_machine.specs.declared.act.Answer.TheVariants as answer
 use Rattle.ct_machine.specs.States.{State, arrival_of}
 use Rattle.ct_machine.specs.Events.{after_events}
-use Rattle.ct_machine.specs.Acts.{Done, line_by, clearing_all}
+use Rattle.ct_machine.specs.Acts.Answers.{Done, line_by}
+use Rattle.ct_machine.specs.Acts.Begins.{clearing_all}
 use Rattle.ct_lun.specs.declared.said.Entered.{Entered}
 use Rattle.ct_lun.specs.declared.said.Entered.TheVariants as entered
 use Rattle.ct_lun.specs.declared.said.Stepped.{Stepped}

@@ -1,11 +1,10 @@
 -- What contracts see of a logical unit.
-use Rattle.std.specs.Prelude.{ℕ, List, [], ◌∷◌, ◌++◌, not, false, ◌==◌, slice_index_or, insert, Option, if◌then◌else◌}
+use Rattle.std.specs.Prelude.{ℕ, List, [], Bool, not, false, ◌==◌, slice_index_or, Option}
 use Rattle.std.specs.List.{find, position_or_len}
 use Rattle.ct_word.specs.declared.names.LunNo.{LunNo}
 use Rattle.ct_cdb.specs.declared.op.Attr2.{Attr2}
 use Rattle.ct_pool.specs.Leases.{PoolState}
-use Rattle.ct_matrix.specs.Conflicts.{is_head}
-use Rattle.ct_matrix.specs.Queues.{TaskSet}
+use Rattle.ct_matrix.specs.Queues.{TaskSet, placed_among}
 use Rattle.ct_exec.specs.Controls.{ControlState, is_unrestricted, opening_control}
 use Rattle.ct_lun.specs.declared.slot.Slot.{Slot}
 
@@ -50,13 +49,17 @@ slot_of number slots = find (λ (slot : Slot). slot.no == number) slots
 abbrev pub place_of : ℕ → List Slot → ℕ
 place_of number slots = position_or_len (λ (slot : Slot). slot.no == number) slots
 
+-- the command of a slot waits
+abbrev pub waits : Slot → Bool
+waits slot = not slot.begun
+
 -- where the first slot stands whose command waits, or the length
 abbrev pub waiting_from : List Slot → ℕ
-waiting_from slots = position_or_len (λ (slot : Slot). not slot.begun) slots
+waiting_from slots = position_or_len waits slots
 
 -- the place of a new command
 abbrev pub placed_slot : Attr2 → Slot → List Slot → List Slot
-placed_slot attr new slots = if is_head attr then insert slots (waiting_from slots) new else slots ++ new ∷ []
+placed_slot attr new slots = placed_among waits attr new slots
 
 -- a unit with another control
 abbrev pub with_control : Desk → ControlState → Desk

@@ -1,6 +1,7 @@
 -- Room for events, as a number that falls with each act by as many events as it writes.
-use Rattle.std.specs.Prelude.{ℕ, ◌+◌, ◌-◌, ◌*◌, length}
+use Rattle.std.specs.Prelude.{ℕ, ◌+◌, ◌-◌, length}
 use Rattle.std.specs.List.{sum_by}
+use Rattle.ct_book.specs.Kept.{events_for}
 use Rattle.ct_exec.specs.Executions.{plan_in}
 use Rattle.ct_machine.specs.States.{Stage, Waiting, Here, Task, State}
 
@@ -15,4 +16,4 @@ task_room blocks task = room_at task.stage (length (plan_in blocks task.command)
 
 -- the room that a state asks for
 unfoldable pub room_of : State → ℕ
-room_of s = s.room.pieces + 10 * s.room.commands + 12 * s.room.functions + sum_by (task_room (length s.blocks)) s.tasks
+room_of s = events_for s.room + sum_by (task_room (length s.blocks)) s.tasks

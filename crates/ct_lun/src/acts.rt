@@ -2,7 +2,7 @@
 
 ghost use Rattle.std.specs.Prelude.{◌≡◌, ◌+◌, ◌<◌, ◌≤◌, length, true, false, None, IfSome, IfNone, IsNone, IsSomeAnd};
 ghost use Rattle.ct_matrix.specs.Queues.{command_of, blocker_of, next_ready_of, first_begun_of};
-ghost use Rattle.ct_machine.specs.Acts.{first_some};
+ghost use Rattle.ct_machine.specs.Acts.Answers.{first_some};
 ghost use Rattle.ct_lun.specs.Desk.{Desk, slot_at, slot_of};
 ghost use Rattle.ct_exec.specs.Executions.{refusal_of};
 ghost use Rattle.ct_lun.specs.States.{command_in, state_of};

@@ -7,7 +7,8 @@ ghost use Rattle.ct_book.specs.Kept.{IsCommandNo};
 ghost use Rattle.ct_exec.specs.Executions.{plan_in, need_in};
 ghost use Rattle.ct_exec.specs.Refusals.{refused_reply};
 ghost use Rattle.ct_machine.specs.States.{held_by};
-ghost use Rattle.ct_machine.specs.Acts.{entering, arriving, turned_cause};
+ghost use Rattle.ct_machine.specs.Acts.Entries.{entering, turned_cause};
+ghost use Rattle.ct_machine.specs.Acts.Arrivals.{arriving};
 ghost use Rattle.ct_lun.specs.Desk.{Desk, slot_of};
 ghost use Rattle.ct_lun.specs.Overlaps.{cause_by};
 ghost use Rattle.ct_lun.specs.States.{command_in, state_of};
@@ -98,10 +99,10 @@ impl<B: Backend> Lun<B> {
     fn admit(&mut self, nexus: Nexus, tag: Tag, need: u32) -> Result<Lease, Refusal>
         requires out { leases_out self.old.pool ≡ length self.old.set.commands }
         requires contexts { self.old.pool.contexts ≡ self.old.set.depth }
-        ensures free { OnOk result (cause_by self.old nexus tag need ≡ None) }
+        ensures free { OnOk result (cause_by self.old (record { nexus = nexus; tag = tag }) need ≡ None) }
         ensures takes { IfOk result (Takes self.old.pool self.new.pool need) }
         ensures after { OnOk result (self.new ≡ record self.old { pool = self.new.pool }) }
-        ensures cause { IfErr result (λ refusal. cause_by self.old nexus tag need ≡ Some (refused_reply refusal)) }
+        ensures cause { IfErr result (λ refusal. cause_by self.old (record { nexus = nexus; tag = tag }) need ≡ Some (refused_reply refusal)) }
         ensures unchanged { OnErr result (self.new ≡ self.old) }
     {
         if overlaps(self.slots.as_slice(), nexus, tag) {

@@ -1,9 +1,8 @@
 //! Searches in a list of slots.
 
 ghost use Rattle.std.specs.Prelude.{◌≡◌};
-ghost use Rattle.std.specs.List.{list_any};
 ghost use Rattle.ct_lun.specs.Desk.{place_of, waiting_from};
-ghost use Rattle.ct_lun.specs.Overlaps.{is_overlapped_by};
+ghost use Rattle.ct_lun.specs.Overlaps.{is_sent_by};
 
 use crate::slot::Slot;
 use ct_word::{CmdNo, Nexus, Tag};
@@ -34,7 +33,7 @@ pub(crate) fn first_waiting(slots: &[Slot]) -> usize
 
 /// A command of this nexus and tag is among them.
 pub(crate) fn overlaps(slots: &[Slot], nexus: Nexus, tag: Tag) -> bool
-    ensures { result ≡ list_any (is_overlapped_by nexus tag) slots.now }
+    ensures { result ≡ is_sent_by (record { nexus = nexus; tag = tag }) slots.now }
 {
     slots
         .iter()

@@ -15,3 +15,5 @@ pub mod ClearTaskSet
 pub mod StopsAtB
 pub mod SmallRoom
 pub mod PreemptAndAbort
+pub mod TwoFunctions
+pub mod ToldCuts

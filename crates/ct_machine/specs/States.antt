@@ -1,6 +1,6 @@
 -- The state of one logical unit with its two nodes. Which node a command runs at, and the messages between the
 -- nodes, are this project's own; the task set and its functions are those of SAM-5.
-use Rattle.std.specs.Prelude.{ℕ, ◌-◌, List, [], ◌∷◌, ◌++◌, length, map, Bool, true, false, not, ◌==◌, if◌then◌else◌}
+use Rattle.std.specs.Prelude.{ℕ, ◌-◌, List, [], ◌∷◌, length, map, Bool, true, false, not, ◌==◌, if◌then◌else◌}
 use Rattle.std.specs.Prelude.{Option}
 use Rattle.std.specs.List.{find, sum_by}
 use Rattle.ct_word.specs.declared.names.Ha.{Ha}
@@ -9,10 +9,9 @@ use Rattle.ct_word.specs.declared.names.Node.TheVariants.{A, B}
 use Rattle.ct_word.specs.declared.names.Room.{Room}
 use Rattle.ct_tmf.specs.declared.function.Ask.{Ask}
 use Rattle.ct_matrix.specs.Extents.{footprint_of}
-use Rattle.ct_matrix.specs.Conflicts.{is_head}
 use Rattle.ct_matrix.specs.declared.held.Held.{Held}
 use Rattle.ct_matrix.specs.declared.held.HeldCommand.{HeldCommand}
-use Rattle.ct_matrix.specs.Queues.{TaskSet}
+use Rattle.ct_matrix.specs.Queues.{TaskSet, placed_among}
 use Rattle.ct_book.specs.declared.work.Command.{Command}
 use Rattle.ct_book.specs.declared.event.Kind2.{Kind2}
 use Rattle.ct_book.specs.Works.{profile_in}
@@ -169,9 +168,8 @@ abbrev pub free_blocks : State → ℕ
 free_blocks s = s.pool - sum_by (λ (task : Task). need_in (length s.blocks) task.command) s.tasks
 
 -- a new command's place (SAM-5, clause 8): HEAD OF QUEUE right before the first that waits, any other last
-abbrev pub before_waiting : Task → List Task → List Task
-before_waiting new [] = new ∷ []
-before_waiting new (task ∷ tasks) = if is_waiting task.stage then new ∷ task ∷ tasks else task ∷ before_waiting new tasks
+abbrev pub waits : Task → Bool
+waits task = is_waiting task.stage
 
 abbrev pub queued : Task → List Task → List Task
-queued new tasks = if is_head new.command.attr then before_waiting new tasks else tasks ++ new ∷ []
+queued new tasks = placed_among waits new.command.attr new tasks

@@ -1,2 +1,4 @@
 mod Blocking
+pub mod Places
+pub mod Rising
 mod Shared

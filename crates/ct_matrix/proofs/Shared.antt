@@ -3,7 +3,6 @@ use Rattle.std.proofs.Common.{◌≡◌, ℕ, zero, suc, ◌+◌, ◌<◌, ◌�
 use Rattle.std.specs.List.{list_any, Contains}
 use Rattle.std.proofs.lemmas.Bool.{cases_Bool, cases_eq, false≢true, ltb_from_iff}
 use Rattle.std.proofs.lemmas.Bool.Decides.{nat_tests}
-use Rattle.std.proofs.lemmas.List.{append-nil}
 use Rattle.std.proofs.lemmas.List.Folds.{list_any_at, list_any-append}
 use Rattle.ct_matrix.specs.declared.blocks.Extent.{Extent}
 use Rattle.ct_cdb.specs.Ranges.{numbers_from}
@@ -37,7 +36,7 @@ sharing xs ys x in_xs in_ys =
     passed (λ z. list_any (λ y. z == y) ys) xs x in_xs (passed (λ y. x == y) ys x in_ys same)
 
 -- the numbers of a range
-numbers_within : (count first x : ℕ) → Contains (numbers_from first count) x → (first ≤ x) × (x < first + count)
+pub numbers_within : (count first x : ℕ) → Contains (numbers_from first count) x → (first ≤ x) × (x < first + count)
 numbers_within zero first x (k, within, here) = absurd (omega (arith, within))
 numbers_within (suc count) first x (zero, within, here) = (omega (arith, here), omega (arith, here))
 numbers_within (suc count) first x (suc k, within, here) =
@@ -52,10 +51,8 @@ numbers_has (suc count) first x low high =
     ]
 
 -- two ranges share a block exactly where the later beginning is before the earlier end
-pub share-extents : (a b : Extent) → share_a_block (blocks_in (a ∷ [])) (blocks_in (b ∷ [])) ≡ nat_lt (max a.first b.first) (min (a.first + a.count) (b.first + b.count))
-share-extents a b =
-    rw (append-nil (numbers_from a.first a.count), append-nil (numbers_from b.first b.count))
-    (ltb_from_iff (meets, met))
+pub share-extents : (a b : Extent) → share_a_block (numbers_from a.first a.count) (numbers_from b.first b.count) ≡ nat_lt (max a.first b.first) (min (a.first + a.count) (b.first + b.count))
+share-extents a b = ltb_from_iff (meets, met)
   where
     meets : share_a_block (numbers_from a.first a.count) (numbers_from b.first b.count) ≡ true → max a.first b.first < min (a.first + a.count) (b.first + b.count)
     meets h =

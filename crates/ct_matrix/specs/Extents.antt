@@ -1,6 +1,6 @@
 -- Which blocks a command reads and writes, as sets of block numbers.
-use Rattle.std.specs.Prelude.{ℕ, List, [], ◌∷◌, ◌++◌, Bool, ◌||◌, ◌==◌, ◌⊎◌, if◌then◌else◌}
-use Rattle.std.specs.List.{list_any, Contains}
+use Rattle.std.specs.Prelude.{◌≡◌, ◌≤◌, ℕ, ◌+◌, List, [], ◌∷◌, ◌++◌, Bool, ◌||◌, ◌==◌, nat_le, ◌⊎◌, ⊤, if◌then◌else◌}
+use Rattle.std.specs.List.{list_any, All, Contains}
 use Rattle.ct_cdb.specs.declared.profile.Profile.{Profile}
 use Rattle.ct_cdb.specs.declared.ranges.LbaRange.{LbaRange}
 use Rattle.ct_cdb.specs.Ranges.{numbers_from}
@@ -46,14 +46,32 @@ extents_of (range ∷ ranges) =
     if range.count == 0 then extents_of ranges else record { first = range.lba; count = range.count } ∷ extents_of
     ranges
 
-abbrev pub extents_if : Bool → List LbaRange → List Extent
-extents_if goes ranges = if goes then extents_of ranges else []
+-- the same blocks, in rising order of the ranges' first blocks
+abbrev pub insert : Extent → List Extent → List Extent
+insert extent [] = extent ∷ []
+insert extent (other ∷ others) =
+    if nat_le extent.first other.first then extent ∷ other ∷ others else other ∷ insert extent others
+
+abbrev pub rising : List Extent → List Extent
+rising [] = []
+rising (extent ∷ extents) = insert extent (rising extents)
+
+abbrev pub IsRising : List Extent → Type 0
+IsRising [] = ⊤
+IsRising (extent ∷ extents) = All (λ (other : Extent). extent.first ≤ other.first) extents × IsRising extents
+
+-- ranges that end before a block, or at it
+abbrev pub EndBy : ℕ → List Extent → Type 0
+EndBy end extents = All (λ (extent : Extent). extent.first + extent.count ≤ end) extents
+
+abbrev pub extents_if : Bool → List Extent → List Extent
+extents_if goes extents = if goes then extents else []
 
 -- a command reads its ranges where a phase reads, and writes them where a phase writes (SBC-3)
 abbrev pub whole_print : Profile → Print
 whole_print profile = record {
-  reads = extents_if (list_any reads profile.phases) profile.ranges;
-  writes = extents_if (list_any writes profile.phases) profile.ranges;
+  reads = extents_if (list_any reads profile.phases) (rising (extents_of profile.ranges));
+  writes = extents_if (list_any writes profile.phases) (rising (extents_of profile.ranges));
 }
 
 -- a command that has no block to move, or is refused for its data-out or its range, touches none

@@ -3,6 +3,7 @@
 use Rattle.std.specs.Prelude.{◌≡◌, ℕ, List, [], ◌∷◌, ◌++◌, Bool, true, false, not, ◌&&◌, ◌==◌, if◌then◌else◌, Option, None, Some, is_none, IsNone, option_map}
 use Rattle.std.specs.List.{find}
 use Rattle.std.specs.Option.{option_map_or}
+use Rattle.ct_cdb.specs.declared.op.Attr2.{Attr2}
 use Rattle.ct_matrix.specs.declared.held.HeldCommand.{HeldCommand}
 use Rattle.ct_matrix.specs.Conflicts.{has_to_wait, is_head}
 
@@ -13,14 +14,20 @@ pub record TaskSet : Type 0 where
   pub depth : ℕ
   pub unrestricted : Bool
 
--- before the first command that waits, or last where none waits
-abbrev pub before_waiting : HeldCommand → List HeldCommand → List HeldCommand
-before_waiting new [] = new ∷ []
-before_waiting new (command ∷ commands) = if command.held.begun then command ∷ before_waiting new commands else new ∷ command ∷ commands
+-- a new item goes right before the first of a list that passes a test, or last where none does
+abbrev pub before_first : {A : Type 0} → (A → Bool) → A → List A → List A
+before_first test new [] = new ∷ []
+before_first test new (item ∷ items) = if test item then new ∷ item ∷ items else item ∷ before_first test new items
 
 -- a HEAD OF QUEUE command goes right before the first command that waits, any other goes last
+abbrev pub placed_among : {A : Type 0} → (A → Bool) → Attr2 → A → List A → List A
+placed_among waits attr new items = if is_head attr then before_first waits new items else items ++ new ∷ []
+
+abbrev pub waits_yet : HeldCommand → Bool
+waits_yet command = not command.held.begun
+
 abbrev pub placed : HeldCommand → List HeldCommand → List HeldCommand
-placed new commands = if is_head new.held.attr then before_waiting new commands else commands ++ new ∷ []
+placed new commands = placed_among waits_yet new.held.attr new commands
 
 -- the command with a number
 abbrev pub command_of : ℕ → List HeldCommand → Option HeldCommand
@@ -28,7 +35,7 @@ command_of wanted commands = find (λ command. command.no == wanted) commands
 
 -- a command is held, and waits
 abbrev pub is_waiting : ℕ → TaskSet → Bool
-is_waiting wanted set = option_map_or (λ command. not command.held.begun) (command_of wanted set.commands) false
+is_waiting wanted set = option_map_or waits_yet (command_of wanted set.commands) false
 
 -- the commands but the one with a number
 abbrev pub without : ℕ → List HeldCommand → List HeldCommand
@@ -70,7 +77,7 @@ first_waited_for unrestricted is_ahead waiting commands =
 
 -- it waits, and for no other command
 abbrev pub is_ready : TaskSet → HeldCommand → Bool
-is_ready set command = not command.held.begun && is_none (blocker_of set command)
+is_ready set command = waits_yet command && is_none (blocker_of set command)
 
 -- the first command that is ready, the first that has begun, and the first of all
 unfoldable pub next_ready_of : TaskSet → Option ℕ

@@ -1,9 +1,11 @@
-ghost use Rattle.std.specs.Prelude.{◌≡◌, ◌+◌, ◌<◌, ◌^◌, length, IfSome};
-ghost use Rattle.std.specs.Option.{option_to_list};
+ghost use Rattle.std.specs.Prelude.{◌≡◌, ◌+◌, ◌≤◌, ◌<◌, ◌^◌, length, true};
+ghost use Rattle.std.specs.List.{list_all};
+ghost use Rattle.ct_word.specs.declared.limit.TheConstants.{MOST_RANGES};
 ghost use Rattle.ct_cdb.specs.Profiles.{profile_of};
-ghost use Rattle.ct_matrix.specs.Extents.{extents_if, footprint_of};
+ghost use Rattle.ct_cdb.specs.Ranges.{is_inside};
+ghost use Rattle.ct_matrix.specs.Extents.{extents_of, rising, footprint_of};
 
-use crate::blocks::{Extent, Footprint};
+use crate::blocks::{Extent, Extents, Footprint};
 use ct_cdb::{LbaRange, Op, Profile};
 
 /// The footprint of a command that came with this data-out, on a disk of so many blocks.
@@ -20,25 +22,32 @@ impl Footprint {
         ensures { result ≡ footprint_of out blocks profile.now }
     {
         if !profile.is_performed(out, blocks) {
-            return Footprint::new(None, None);
+            return Footprint::new(Extents::none(), false, false);
         }
-        let range = profile.ranges.only();
-        let reads = extent_if(profile.reads(), range);
-        let writes = extent_if(profile.writes(), range);
-        Footprint::new(reads, writes)
+        let extents = rising(profile.ranges.as_slice(), blocks);
+        Footprint::new(extents, profile.reads(), profile.writes())
     }
 }
 
-// The range, unless it is empty, where a command goes.
-fn extent_if(goes: bool, range: Option<LbaRange>) -> Option<Extent>
-    requires { IfSome range (λ range. range.lba + range.count < 2 ^ 32) }
-    ensures { option_to_list result ≡ extents_if goes (option_to_list range) }
+// Ranges on a disk of so many blocks, without those that are empty, in rising order.
+fn rising(ranges: &[LbaRange], blocks: u32) -> Extents
+    requires few { length ranges.now ≤ 64 }
+    requires inside { list_all (is_inside blocks) ranges.now ≡ true }
+    ensures extents { result ≡ rising (extents_of ranges.now) }
+    ensures few { length result ≤ length ranges.now }
 {
-    match range {
-        Some(LbaRange { lba, count }) if goes && count != 0 => Some(Extent {
-            first: lba as u32,
-            count,
-        }),
-        _ => None,
+    match ranges {
+        [] => Extents::none(),
+        [first, others @ ..] => {
+            let extents = rising(others, blocks);
+            if first.count == 0 {
+                extents
+            } else {
+                extents.with(Extent {
+                    first: first.lba as u32,
+                    count: first.count,
+                })
+            }
+        }
     }
 }

@@ -2,7 +2,6 @@
 #![tactic(auto)]
 
 mod laws;
-mod mode_data;
 mod pages;
 mod select;
 mod sense;

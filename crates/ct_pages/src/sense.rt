@@ -4,11 +4,14 @@ ghost use Rattle.std.specs.Prelude.{◌≡◌, ◌≤◌, ◌+◌, ◌-◌, ◌+
 ghost use Rattle.ct_pages.specs.Senses.{pages_asked, block_descriptor, descriptor_of, device_parameter, header};
 ghost use Rattle.ct_pages.specs.Senses.{whole_mode_data, mode_data};
 
-use crate::mode_data::ModeData;
 use crate::pages::{ModePages, flag};
 use ct_cdb::{Form, ModePage, PageControl};
+use ct_param::ShortBytes;
 use ct_word::Reserve;
 use ct_word::limit::BLOCK_SIZE;
+
+/// A long header, a block descriptor and two pages.
+type ModeData = ShortBytes<48>;
 
 /// DPOFUA: DPO and FUA are accepted
 const DPOFUA: u8 = 0x10;

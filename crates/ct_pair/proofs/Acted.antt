@@ -19,7 +19,11 @@ use Rattle.ct_machine.specs.declared.act.Answer.TheVariants as answer
 use Rattle.ct_machine.specs.declared.act.Opening.{Opening}
 use Rattle.ct_machine.specs.States.{State, task_of}
 use Rattle.ct_machine.specs.Events.{after_events}
-use Rattle.ct_machine.specs.Acts.{Done, doing, Written, act_of, unchanged, next_number, has_room_for, arriving, arriving_at, stepping, stepping_next, next_step}
+use Rattle.ct_machine.specs.Acts.Answers.{Done, unchanged}
+use Rattle.ct_machine.specs.Acts.{doing, Written, act_of}
+use Rattle.ct_machine.specs.Acts.Arrivals.{next_number, has_room_for, arriving, arriving_at}
+use Rattle.ct_machine.specs.Acts.Steps.{stepping}
+use Rattle.ct_machine.specs.Acts.Next.{stepping_next, next_step}
 use Rattle.ct_machine.specs.Runs.{replay, IsAtNode, IsAllowed, Move, written, journal_of, IsRun}
 use Rattle.ct_law.proofs.Growing.{replay-append}
 use Rattle.ct_lun.specs.Desk.{Desk}

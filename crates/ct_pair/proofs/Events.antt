@@ -16,7 +16,13 @@ use Rattle.ct_book.specs.declared.event.Logged.{Logged}
 use Rattle.ct_book.specs.Journals.{KeptWork, works_in}
 use Rattle.ct_machine.specs.declared.act.Opening.{Opening}
 use Rattle.ct_machine.specs.States.{Stage, Waiting, Here, Granted, There, Over, Task, Open, Message, Arrival, State, opened, arrival_of, task_of, function_of}
-use Rattle.ct_machine.specs.Events.{message, came_at_b, to_b_if, answered, pieces_of, with_room, sent_from, after_came, entered, after_enter, staged, moved_at, after_moved, leaves, ended_at, after_ended, cut_at, after_cut, asked_for, after_asked, closed, came_to_a, begun_at_b, after_grant, came_to_b, after_deliver, after_event, after, after_events}
+use Rattle.ct_machine.specs.Events.Sends.{message, came_at_b, to_b_if, answered}
+use Rattle.ct_machine.specs.Events.Arrivals.{pieces_of, with_room, sent_from, after_came, entered, after_enter}
+use Rattle.ct_machine.specs.Events.Moves.{staged, moved_at, after_moved}
+use Rattle.ct_machine.specs.Events.Ends.{leaves, ended_at, after_ended, cut_at, after_cut}
+use Rattle.ct_machine.specs.Events.Functions.{asked_for, after_asked, closed}
+use Rattle.ct_machine.specs.Events.Deliveries.{came_to_a, begun_at_b, after_grant, came_to_b, after_deliver}
+use Rattle.ct_machine.specs.Events.{after_event, after, after_events}
 use Rattle.ct_machine.specs.Runs.{replay}
 
 -- the room for functions of the second state is not above that of the first

@@ -13,13 +13,18 @@ use Rattle.ct_exec.specs.Controls.{tells_aborts}
 use Rattle.ct_exec.specs.Executions.{execute, refusal_of, plan_in}
 use Rattle.ct_machine.specs.declared.act.Answer.TheVariants as answer
 use Rattle.ct_machine.specs.States.{Stage, Waiting, Here, Granted, There, Over, Task, State, disk_of, task_of}
-use Rattle.ct_machine.specs.Events.{is_cleared}
+use Rattle.ct_machine.specs.Events.Ends.{is_cleared}
 use Rattle.ct_plan.specs.Pieces.{tried}
-use Rattle.ct_machine.specs.Acts.{Turn, nothing, says, replies, followed}
-use Rattle.ct_machine.specs.Acts.{moving_on, failing, failing_if, moved_to}
-use Rattle.ct_machine.specs.Acts.{moving_from, clearing, clearing_all, numbers_of, ending_at_once, is_granted}
-use Rattle.ct_machine.specs.Acts.{beginning_at, beginning, Done, blocked_by, beginning_unless, stepping_at, is_sent}
-use Rattle.ct_machine.specs.Acts.{stepping, stepping_next}
+use Rattle.ct_machine.specs.Acts.Turns.{Turn, nothing, says, replies, followed}
+use Rattle.ct_machine.specs.Acts.Moves.{moving_on, failing, failing_if, moved_to}
+use Rattle.ct_machine.specs.Acts.Moves.{moving_from}
+use Rattle.ct_machine.specs.Acts.Begins.{clearing, clearing_all, ending_at_once, is_granted}
+use Rattle.ct_machine.specs.Acts.Functions.{numbers_of}
+use Rattle.ct_machine.specs.Acts.Begins.{beginning_at, beginning}
+use Rattle.ct_machine.specs.Acts.Answers.{Done}
+use Rattle.ct_machine.specs.Acts.Steps.{blocked_by, beginning_unless, stepping_at, is_sent}
+use Rattle.ct_machine.specs.Acts.Steps.{stepping}
+use Rattle.ct_machine.specs.Acts.Next.{stepping_next}
 
 -- no work comes
 abbrev pub Quiet : Turn → Type 0

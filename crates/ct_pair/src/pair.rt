@@ -4,7 +4,7 @@ ghost use Rattle.ct_book.specs.Journals.{numbered};
 ghost use Rattle.ct_book.specs.Kept.{events_for};
 ghost use Rattle.ct_machine.specs.declared.act.Act.TheVariants as act;
 ghost use Rattle.ct_machine.specs.States.{State};
-ghost use Rattle.ct_machine.specs.Acts.{line_by};
+ghost use Rattle.ct_machine.specs.Acts.Answers.{line_by};
 ghost use Rattle.ct_machine.specs.Runs.{replay, IsAllowed, IsRun};
 ghost use Rattle.ct_lun.specs.States.{at_a};
 ghost use Rattle.ct_lun.specs.Calls.{said, said_next};
@@ -76,6 +76,7 @@ impl<B: Backend> Pair<B> {
           room = room;
         }) }
         ensures empty { IfOk result (λ p. p.book.journal ≡ []) }
+        ensures faults { IfOk result (λ p. p.desk.faults ≡ B.faults medium) }
     {
         let opening = Opening {
             ha,

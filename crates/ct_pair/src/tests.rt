@@ -167,6 +167,15 @@ fn a_crowded_unit_turns_commands_away(rt: HostRuntime) -> Result<(), Fail> {
     Ok(())
 }
 
+// Status, SENSE KEY and ADDITIONAL SENSE CODE of a command that ended with sense data.
+fn sense<B: Backend>(pair: &Pair<B>, no: u32) -> Option<(Status, u8, u8)> {
+    let reply = pair.book().reply(numbered(no))?;
+    match &reply.sense {
+        Some(sense) => Some((reply.status, sense.key, sense.asc)),
+        None => None,
+    }
+}
+
 // The medium cut the second write behind its first block.
 fn has_cut(book: &Book) -> bool {
     let cut = Event::Cut {
@@ -191,9 +200,12 @@ fn a_fault_of_the_medium_cuts(rt: HostRuntime) -> Result<(), Fail> {
     let mut pair = Pair::open(alloc, Ha::None, LunNo(0), 3, 4, ROOM, medium)?;
     let (overlapped, read, data) = overlap_and_read(alloc, &mut pair, READ_TWO)?;
     let cut = has_cut(pair.book());
+    let failed = sense(&pair, 2);
     assert_eq!(rt; overlapped, OVERLAPPED);
     assert_eq!(rt; read, READ_BEHIND);
     assert_eq!(rt; data, (1024, 0x22, 0));
     assert!(rt; cut);
+    // MEDIUM ERROR, WRITE ERROR
+    assert_eq!(rt; failed, Some((Status::CheckCondition, 3, 0x0c)));
     Ok(())
 }

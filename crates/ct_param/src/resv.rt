@@ -21,8 +21,8 @@ pub struct ResvList {
     pub service_key: u64,
 }
 
-/// Reads the parameter list of a PERSISTENT RESERVE OUT. BadLength where it hasn't 24 bytes; then BadField where SPEC_I_PT,
-/// ALL_TG_PT, APTPL or another bit of their byte is set.
+/// Reads the parameter list of a PERSISTENT RESERVE OUT. BadLength where it hasn't 24 bytes; then BadField where
+/// SPEC_I_PT, ALL_TG_PT, APTPL or another bit of their byte is set.
 #[tactic(auto, unfolding(crate::specs::ResvLists::resv_list_of))]
 pub fn read_resv(bytes: &[u8]) -> Result<ResvList, ListFault>
     ensures { result ≡ resv_list_of bytes.now }

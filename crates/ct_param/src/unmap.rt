@@ -153,8 +153,10 @@ impl UnmapList {
         }
     }
 
+    /// The descriptors, in order.
     pub fn as_slice(&self) -> &[UnmapDescriptor]
-        ensures { result.now ≡ self.now }
+        ensures descriptors { result.now ≡ self.now }
+        ensures few { length result.now ≤ MOST_RANGES }
     {
         &self.descriptors[..self.count]
     }

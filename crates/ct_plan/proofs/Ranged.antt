@@ -1,18 +1,21 @@
 -- The operations of phases, by their places.
 use Rattle.std.proofs.Math.Nat.{mul-le-mul_right}
-use Rattle.std.proofs.lemmas.Bool.{cases_lt}
-use Rattle.std.proofs.Common.{◌≡◌, ℕ, zero, suc, ◌+◌, ◌-◌, ◌*◌, ◌<◌, ◌≤◌, min, Bool, true, false, cond, List, [], ◌∷◌}
+use Rattle.std.specs.List.{list_all}
+use Rattle.std.proofs.lemmas.Bool.{cases_lt, and_parts}
+use Rattle.std.proofs.Common.{◌≡◌, ℕ, zero, suc, ◌+◌, ◌-◌, ◌*◌, ◌<◌, ◌≤◌, min, Bool, true, false, not, nat_lt, cond, List, [], ◌∷◌}
 use Rattle.std.proofs.Common.{◌++◌, length, take, slice_get, Some, inl, inr, refl, sym, ap, ◌∙◌, arith, length-append}
 use Rattle.std.proofs.Common.{append-nil}
 use Rattle.ct_cdb.specs.declared.profile.Phase.{Phase}
 use Rattle.ct_cdb.specs.declared.profile.Phase.TheVariants as phase
 use Rattle.ct_cdb.specs.declared.ranges.LbaRange.{LbaRange}
-use Rattle.ct_cdb.specs.Ranges.{total, numbers_of}
-use Rattle.ct_cdb.specs.Profiles.{writes}
-use Rattle.ct_cdb.proofs.Numbers.{length-numbers_of}
+use Rattle.ct_word.specs.declared.limit.TheConstants.{MOST_BLOCKS, MOST_RANGES}
+use Rattle.ct_cdb.specs.Ranges.{total, numbers_of, is_inside}
+use Rattle.ct_cdb.specs.declared.profile.Profile.{Profile}
+use Rattle.ct_cdb.specs.Profiles.{writes, is_performed}
+use Rattle.ct_cdb.proofs.Numbers.{length-numbers_of, total_inside}
 use Rattle.ct_plan.specs.declared.operation.BlockOp.{BlockOp}
 use Rattle.ct_plan.specs.PlanStates.{IsPlan}
-use Rattle.ct_plan.specs.Plans.{operation_of, operations_from, operations_in, planned, needed, is_put, puts_among}
+use Rattle.ct_plan.specs.Plans.{operation_of, operations_from, operations_in, planned, plan_of, needed, is_put, puts_among}
 use Rattle.ct_plan.specs.Plans.{puts_by}
 
 length-operations_from : (phase : Phase) (count place : ℕ) (lbas : List ℕ)
@@ -47,6 +50,27 @@ none_planned phases ranges none = empty (planned phases ranges) (length-planned 
     empty : (ops : List BlockOp) → length ops ≡ 0 → ops ≡ []
     empty [] e = refl
     empty (op ∷ ops) e = absurd (omega arith)
+
+-- a command that is performed has so many blocks at most, and no operation or some
+pub performed_inside : (out blocks : ℕ) (profile : Profile) → is_performed out blocks profile ≡ true
+    → list_all (is_inside blocks) profile.ranges ≡ true
+performed_inside out blocks profile performed =
+    (and_parts (not (nat_lt out profile.data_out)) (list_all (is_inside blocks) profile.ranges) performed).1
+
+pub performed_few : (out blocks : ℕ) (profile : Profile) → is_performed out blocks profile ≡ true
+    → blocks ≤ MOST_BLOCKS → length profile.ranges ≤ MOST_RANGES
+    → total profile.ranges ≤ MOST_RANGES * MOST_BLOCKS
+performed_few out blocks profile performed few ranges =
+    omega (arith, ranges, total_inside blocks profile.ranges few (performed_inside out blocks profile performed))
+
+pub none_of_plan : (out blocks : ℕ) (profile : Profile) → length profile.phases * total profile.ranges ≡ 0
+    → plan_of out blocks profile ≡ []
+unfolding plan_of
+none_of_plan out blocks profile none = go (is_performed out blocks profile)
+  where
+    go : (t : Bool) → cond t (planned profile.phases profile.ranges) [] ≡ []
+    go true = none_planned profile.phases profile.ranges none
+    go false = refl
 
 -- an operation of a plan has a buffer, and its place is one of its phase's blocks
 pub some_need : (phases : List Phase) (ranges : List LbaRange) (count need done : ℕ) → IsPlan phases ranges count need

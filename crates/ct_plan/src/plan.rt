@@ -1,4 +1,4 @@
-ghost use Rattle.std.specs.Prelude.{◌≡◌, ◌+◌, ◌*◌, ◌^◌, ◌<◌, ◌≤◌, length, take, slice_get, Some};
+ghost use Rattle.std.specs.Prelude.{◌≡◌, ◌+◌, ◌*◌, ◌^◌, ◌<◌, ◌≤◌, [], length, take, slice_get, Some};
 ghost use Rattle.ct_cdb.specs.Profiles.{Fits, profile_of};
 ghost use Rattle.ct_plan.specs.Plans.{operation_of, plan_of, need_of, puts_among, puts_by};
 ghost use Rattle.ct_plan.specs.Tasks.{IsTold};
@@ -51,13 +51,11 @@ impl Plan {
         ensures operations { result.operations ≡ plan_of out blocks profile }
         ensures need { result.need ≡ need_of out blocks profile }
     {
-        if profile.operations() == 0 || !profile.is_performed(out, blocks) {
-            return Plan {
-                phases: Few::none(),
-                ranges: Ranges::none(),
-                count: 0,
-                need: 0,
-            };
+        if !profile.is_performed(out, blocks) {
+            return Plan::none();
+        }
+        if profile.operations() == 0 {
+            return Plan::none();
         }
         let count = profile.ranges.total() as u32;
         Plan {
@@ -65,6 +63,19 @@ impl Plan {
             ranges: profile.ranges,
             count,
             need: profile.need as u32,
+        }
+    }
+
+    // The empty plan.
+    fn none() -> Plan
+        ensures operations { result.operations ≡ [] }
+        ensures need { result.need ≡ 0 }
+    {
+        Plan {
+            phases: Few::none(),
+            ranges: Ranges::none(),
+            count: 0,
+            need: 0,
         }
     }
 

@@ -9,7 +9,8 @@ use Rattle.std.proofs.lemmas.List.Sums.{prefix_len-le-length}
 use Rattle.std.proofs.lemmas.Option.{slice_get-get_or}
 use Rattle.ct_word.specs.Kept.{Kept}
 use Rattle.ct_matrix.specs.declared.held.HeldCommand.{HeldCommand}
-use Rattle.ct_matrix.specs.Queues.{command_of, without, with_begun, before_waiting, after_of, first_of, number_of}
+use Rattle.ct_matrix.specs.Queues.{command_of, without, with_begun, waits_yet, before_first, after_of, first_of, number_of}
+use Rattle.ct_matrix.proofs.Places.{insert_first, first_within}
 use Rattle.ct_queue.specs.Sound.{IsSingle, IsSound, place_of, waiting_from}
 
 same_number : (a b : ℕ) → (a == b) ≡ true → a ≡ b
@@ -89,39 +90,11 @@ set-place number (c ∷ cs) found single at =
           rw (place-other number c cs other, other) (ap (λ (rest : List HeldCommand). c ∷ rest) (set-place number cs found single.1 later))
     ]
 
-waiting-here : (c : HeldCommand) (cs : List HeldCommand) → c.held.begun ≡ false → waiting_from (c ∷ cs) ≡ 0
-waiting-here c cs waits = rw waits refl
+before-begun : (new c : HeldCommand) (cs : List HeldCommand) → c.held.begun ≡ true → before_first waits_yet new (c ∷ cs) ≡ c ∷ before_first waits_yet new cs
+before-begun new c cs begun = rw begun refl
 
-waiting-later : (c : HeldCommand) (cs : List HeldCommand) → c.held.begun ≡ true → waiting_from (c ∷ cs) ≡ suc (waiting_from cs)
-waiting-later c cs begun = rw begun (omega arith)
-
-pub waiting_within : (commands : List HeldCommand) → waiting_from commands ≤ length commands
-waiting_within commands = prefix_len-le-length (λ (command : HeldCommand). not (not command.held.begun)) commands
-
-when-true : {A : Type 0} (test : Bool) (x y : A) → test ≡ true → (if test then x else y) ≡ x
-when-true true x y h = refl
-when-true false x y h = absurd (false≢true h)
-
-when-false : {A : Type 0} (test : Bool) (x y : A) → test ≡ false → (if test then x else y) ≡ y
-when-false true x y h = absurd (false≢true (sym h))
-when-false false x y h = refl
-
-before-begun : (new c : HeldCommand) (cs : List HeldCommand) → c.held.begun ≡ true → before_waiting new (c ∷ cs) ≡ c ∷ before_waiting new cs
-before-begun new c cs begun = when-true c.held.begun (c ∷ before_waiting new cs) (new ∷ c ∷ cs) begun
-
-before-waits : (new c : HeldCommand) (cs : List HeldCommand) → c.held.begun ≡ false → before_waiting new (c ∷ cs) ≡ new ∷ c ∷ cs
-before-waits new c cs waits = when-false c.held.begun (c ∷ before_waiting new cs) (new ∷ c ∷ cs) waits
-
--- a command put at the first place of one that waits
-pub insert-waiting : (new : HeldCommand) (commands : List HeldCommand) → insert commands (waiting_from commands) new ≡ before_waiting new commands
-insert-waiting new [] = refl
-insert-waiting new (c ∷ cs) =
-    elim (cases_Bool c.held.begun) [
-      | inl begun ↦
-          ap (λ (at : ℕ). insert (c ∷ cs) at new) (waiting-later c cs begun)
-          ∙ ap (λ (rest : List HeldCommand). c ∷ rest) (insert-waiting new cs) ∙ sym (before-begun new c cs begun)
-      | inr waits ↦ ap (λ (at : ℕ). insert (c ∷ cs) at new) (waiting-here c cs waits) ∙ sym (before-waits new c cs waits)
-    ]
+before-waits : (new c : HeldCommand) (cs : List HeldCommand) → c.held.begun ≡ false → before_first waits_yet new (c ∷ cs) ≡ new ∷ c ∷ cs
+before-waits new c cs waits = rw waits refl
 
 -- a number is absent exactly where no command has it
 absent-cons : (number : ℕ) (c : HeldCommand) (cs : List HeldCommand) → (c.no == number) ≡ false → IsNone (command_of number cs) → IsNone (command_of number (c ∷ cs))
@@ -149,21 +122,21 @@ single-push (c ∷ cs) new single fresh =
     let parts = other_than_absent new.no c cs fresh in
     (absent-push c.no cs new single.0 (turned c.no new.no parts.0), single-push cs new single.1 parts.1)
 
-absent-before_waiting : (number : ℕ) (new : HeldCommand) (commands : List HeldCommand) → IsNone (command_of number commands) → (new.no == number) ≡ false → IsNone (command_of number (before_waiting new commands))
-absent-before_waiting number new [] absent other = rw other refl
-absent-before_waiting number new (c ∷ cs) absent other =
+absent-before_first : (number : ℕ) (new : HeldCommand) (commands : List HeldCommand) → IsNone (command_of number commands) → (new.no == number) ≡ false → IsNone (command_of number (before_first waits_yet new commands))
+absent-before_first number new [] absent other = rw other refl
+absent-before_first number new (c ∷ cs) absent other =
     let parts = other_than_absent number c cs absent in
     elim (cases_Bool c.held.begun) [
-      | inl begun ↦ rw (before-begun new c cs begun) (absent-cons number c (before_waiting new cs) parts.0 (absent-before_waiting number new cs parts.1 other))
+      | inl begun ↦ rw (before-begun new c cs begun) (absent-cons number c (before_first waits_yet new cs) parts.0 (absent-before_first number new cs parts.1 other))
       | inr waits ↦ rw (before-waits new c cs waits) (absent-cons number new (c ∷ cs) other absent)
     ]
 
-pub single-before_waiting : (new : HeldCommand) (commands : List HeldCommand) → IsSingle commands → IsNone (command_of new.no commands) → IsSingle (before_waiting new commands)
-single-before_waiting new [] single fresh = (refl, tt)
-single-before_waiting new (c ∷ cs) single fresh =
+pub single-before_first : (new : HeldCommand) (commands : List HeldCommand) → IsSingle commands → IsNone (command_of new.no commands) → IsSingle (before_first waits_yet new commands)
+single-before_first new [] single fresh = (refl, tt)
+single-before_first new (c ∷ cs) single fresh =
     let parts = other_than_absent new.no c cs fresh in
     elim (cases_Bool c.held.begun) [
-      | inl begun ↦ rw (before-begun new c cs begun) (absent-before_waiting c.no new cs single.0 (turned c.no new.no parts.0), single-before_waiting new cs single.1 parts.1)
+      | inl begun ↦ rw (before-begun new c cs begun) (absent-before_first c.no new cs single.0 (turned c.no new.no parts.0), single-before_first new cs single.1 parts.1)
       | inr waits ↦ rw (before-waits new c cs waits) (fresh, single)
     ]
 
@@ -232,8 +205,8 @@ pub sound-inserted : (kept : Kept HeldCommand) (depth at : ℕ) (new : HeldComma
     → IsSound (record { items = insert kept.items at new; room = kept.room - 1 }) depth
 sound-inserted kept depth at new sound room place fresh = record {
   few = sound.few;
-  room = omega (arith, sound.room, length-insert kept.items at new (subst (λ (n : ℕ). n ≤ length kept.items) (sym place) (waiting_within kept.items)));
-  single = rw (place, insert-waiting new kept.items) (single-before_waiting new kept.items sound.single fresh);
+  room = omega (arith, sound.room, length-insert kept.items at new (subst (λ (n : ℕ). n ≤ length kept.items) (sym place) (first_within waits_yet kept.items)));
+  single = rw (place, insert_first waits_yet new kept.items) (single-before_first new kept.items sound.single fresh);
 }
 
 pub sound-left : (kept : Kept HeldCommand) (depth at number : ℕ) → IsSound kept depth → at ≡ place_of number kept.items → at < length kept.items → IsSound (record { items = remove kept.items at; room = kept.room + 1 }) depth

@@ -1,6 +1,7 @@
-ghost use Rattle.std.specs.Prelude.{◌≡◌, true, IsSome};
+ghost use Rattle.std.specs.Prelude.{◌≡◌, true, IsSome, is_none};
 ghost use Rattle.ct_book.specs.Journals.{reply_of};
-ghost use Rattle.ct_book.specs.Kept.{IsCommandNo, IsFunctionNo, IsWorkNo, IsReason, CanBePushed};
+ghost use Rattle.ct_book.specs.Facts.{cutter_of};
+ghost use Rattle.ct_book.specs.Kept.{IsCommandNo, IsFunctionNo, IsWorkNo, IsCutter, StandsIf, CanBePushed};
 
 use crate::byte_print::push_byte_text;
 use crate::disk::push_disk;
@@ -82,7 +83,8 @@ fn has_reply(book: &Book, no: CmdNo) -> bool
 }
 
 fn is_reason(book: &Book, no: CmdNo, why: Why) -> bool
-    ensures { result ≡ true → IsReason book.now no why }
+    ensures cutter { result ≡ true → IsCutter book.now (cutter_of why) }
+    ensures reply { result ≡ true → StandsIf (is_none (cutter_of why)) (reply_of book.now no) }
 {
     match why {
         Why::By(by) => is_work(book, by),

@@ -1,6 +1,6 @@
 -- Loops over registrants that keep some of them, or collect their nexuses.
 use Rattle.std.proofs.Common.{◌≡◌, ◌≤◌, ◌<◌, ◌+◌, ℕ, List, [], ◌∷◌, ◌++◌, length, map, take, drop, get_or, slice_set, Bool, true, false, cond, refl, sym, ap, ◌∙◌, append-nil, length-append, length-drop, arith}
-use Rattle.std.specs.List.{filter, fold}
+use Rattle.std.specs.List.{filter}
 use Rattle.std.proofs.lemmas.List.{get_or_default, take_all, length-map, length-take}
 use Rattle.std.proofs.lemmas.List.Edits.{map_over_more}
 use Rattle.std.proofs.lemmas.List.Elements.{filter_more}

@@ -1,7 +1,7 @@
 -- Lists that PERSISTENT RESERVE IN returns, registrant by registrant, and how many bytes they have.
-use Rattle.std.proofs.Common.{◌≡◌, ◌≤◌, ◌<◌, ◌+◌, ◌*◌, ℕ, min, List, [], ◌∷◌, ◌++◌, length, take, get_or, Bool, true, false, Option, None, Some, refl, ap, ◌∙◌, append-nil, length-append, arith}
+use Rattle.std.proofs.Common.{◌≡◌, ◌≤◌, ◌<◌, ◌+◌, ◌*◌, ℕ, List, [], ◌∷◌, ◌++◌, length, take, get_or, Bool, true, false, Option, None, Some, refl, ap, ◌∙◌, append-nil, length-append, arith}
 use Rattle.std.specs.List.{flat_map}
-use Rattle.std.proofs.lemmas.List.{take_more, take_all, length-take}
+use Rattle.std.proofs.lemmas.List.{take_more, length-take}
 use Rattle.std.proofs.lemmas.Grind.{flat_map-append}
 use Rattle.ct_word.specs.declared.names.Nexus.{Nexus}
 use Rattle.ct_cdb.specs.declared.choices.ReservationType.{ReservationType}
@@ -9,7 +9,7 @@ use Rattle.ct_resv.specs.declared.registrants.Registrant.{Registrant}
 use Rattle.ct_resv.specs.declared.reservations.Reservation.{Reservation}
 use Rattle.ct_resv.specs.declared.reservations.Reservations.{Reservations}
 use Rattle.ct_resv.specs.Registering.{is_holder}
-use Rattle.ct_resv.specs.Reports.{key_entry, keys_listed, holding, holding_of, status_entry, statuses_listed}
+use Rattle.ct_resv.specs.Reports.{key_entry, keys_listed, holding, holding_of, status_entry}
 
 -- one more registrant is listed
 pub listed_more : (entry : Registrant → List ℕ) (xs : List Registrant) (i : ℕ) (d : Registrant) → i < length xs → flat_map entry (take (i + 1) xs) ≡ flat_map entry (take i xs) ++ entry (get_or xs i d)

@@ -1,15 +1,14 @@
 -- An action that is refused changes nothing.
-use Rattle.std.proofs.Common.{◌≡◌, ℕ, ◌+◌, ◌^◌, ◌%◌, length, nat_le, Bool, true, false, if◌then◌else◌, Option, None, Some, Ok, Err, refl}
+use Rattle.std.proofs.Common.{◌≡◌, length, nat_le, Bool, true, false, if◌then◌else◌, refl}
 use Rattle.std.specs.Prelude.{IfErr}
 use Rattle.ct_word.specs.declared.names.Nexus.{Nexus}
 use Rattle.ct_cdb.specs.declared.choices.ReserveOut.{ReserveOut}
 use Rattle.ct_param.specs.declared.resv.ResvList.{ResvList}
-use Rattle.ct_resv.specs.declared.fault.ResvFault.{ResvFault}
 use Rattle.ct_resv.specs.declared.fault.ResvFault.TheVariants.{Full}
 use Rattle.ct_resv.specs.declared.reservations.Reservations.{Reservations}
-use Rattle.ct_resv.specs.Changes.{Outcome, refused, added}
+use Rattle.ct_resv.specs.Changes.{Outcome, refused}
 use Rattle.ct_resv.specs.Actions.{after_out}
-use Rattle.ct_resv.proofs.Walk.{Each, chosen, each_action}
+use Rattle.ct_resv.proofs.Walk.{Each, each_action}
 
 abbrev IsKept : Reservations → Outcome → Type 0
 IsKept state outcome = IfErr outcome.answer (λ _. outcome.after ≡ state)

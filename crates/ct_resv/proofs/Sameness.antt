@@ -1,12 +1,12 @@
 -- Nexuses that are the same, and registrants that are found by them.
-use Rattle.std.proofs.Common.{◌≡◌, ◌==◌, ◌&&◌, ℕ, List, [], ◌∷◌, ◌++◌, length, map, Bool, true, false, not, Option, None, Some, if◌then◌else◌, refl, sym, ap, ◌∙◌, arith}
-use Rattle.std.specs.List.{list_any, filter, find}
+use Rattle.std.proofs.Common.{◌≡◌, ◌==◌, ℕ, List, [], ◌∷◌, length, Bool, true, false, not, refl, sym, ap, ◌∙◌, arith}
+use Rattle.std.specs.List.{list_any, filter}
 use Rattle.std.proofs.lemmas.Bool.Decides.{nat_tests}
 use Rattle.std.proofs.lemmas.Map.Views.{any-filter_same}
 use Rattle.ct_word.specs.Nexuses.{is_same_nexus}
 use Rattle.ct_word.specs.declared.names.Nexus.{Nexus}
 use Rattle.ct_resv.specs.declared.registrants.Registrant.{Registrant}
-use Rattle.ct_resv.specs.Registering.{is_own, is_other, is_registered, key_of, is_key, has_key}
+use Rattle.ct_resv.specs.Registering.{is_own, is_registered, has_key}
 
 -- a nexus is the same as another exactly where it is equal to it
 pub same_is : (a b : Nexus) → is_same_nexus a b ≡ true → (a.port ≡ b.port) × (a.init ≡ b.init)

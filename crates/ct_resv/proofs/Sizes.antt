@@ -1,5 +1,5 @@
 -- How many bytes PERSISTENT RESERVE IN returns.
-use Rattle.std.proofs.Common.{◌≡◌, ◌≤◌, ◌+◌, ◌*◌, ℕ, min, List, length, Option, None, Some, refl, ap, ◌∙◌, arith}
+use Rattle.std.proofs.Common.{◌≡◌, ◌≤◌, ◌+◌, ℕ, min, List, length, Option, None, Some, refl, ap, ◌∙◌, arith}
 use Rattle.std.proofs.lemmas.List.{length-take}
 use Rattle.ct_cdb.specs.declared.choices.ReserveIn.{ReserveIn}
 use Rattle.ct_cdb.specs.declared.choices.ReserveIn.TheVariants as action

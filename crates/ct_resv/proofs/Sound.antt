@@ -1,13 +1,12 @@
 -- Every action keeps registrants few and apart, and the holder registered.
-use Rattle.std.proofs.Common.{◌≡◌, ◌≤◌, ◌+◌, ℕ, List, [], ◌∷◌, ◌++◌, length, map, nat_le, Bool, true, false, not, ◌&&◌, ◌||◌, ◌==◌, cond, if◌then◌else◌, Option, None, Some, refl, sym, ap, ◌∙◌, subst, arith, length-append}
-use Rattle.std.specs.List.{list_any, filter}
+use Rattle.std.proofs.Common.{◌≡◌, ◌≤◌, ◌+◌, ℕ, List, [], ◌∷◌, ◌++◌, length, map, nat_le, Bool, true, false, not, ◌&&◌, ◌||◌, ◌==◌, if◌then◌else◌, Option, None, Some, refl, sym, ap, ◌∙◌, subst, arith, length-append}
+use Rattle.std.specs.List.{filter}
 use Rattle.std.proofs.lemmas.Bool.Decides.{nat_tests}
 use Rattle.std.proofs.lemmas.List.{length-map}
 use Rattle.std.proofs.lemmas.List.Folds.{list_any-append}
 use Rattle.std.proofs.lemmas.List.Sums.{length-filter, count_by-le-length}
 use Rattle.ct_word.specs.Nexuses.{is_same_nexus}
 use Rattle.ct_word.specs.declared.names.Nexus.{Nexus}
-use Rattle.ct_cdb.specs.declared.choices.ReservationType.{ReservationType}
 use Rattle.ct_cdb.specs.declared.choices.ReserveOut.{ReserveOut}
 use Rattle.ct_param.specs.declared.resv.ResvList.{ResvList}
 use Rattle.ct_resv.specs.declared.registrants.Registrant.{Registrant}
@@ -16,9 +15,9 @@ use Rattle.ct_resv.specs.declared.registrants.Named.TheVariants as named
 use Rattle.ct_resv.specs.declared.reservations.Reservation.{Reservation}
 use Rattle.ct_resv.specs.declared.reservations.Reservations.{Reservations}
 use Rattle.ct_resv.specs.Registering.{is_own, is_other, is_registered, has_key, others_of, is_held_by_all}
-use Rattle.ct_resv.specs.Changes.{Outcome, refused, added, with_key, next_generation, ends_without, reservation_without}
-use Rattle.ct_resv.specs.Changes.{is_named, is_removed, is_left, left_of}
-use Rattle.ct_resv.specs.Actions.{is_preempted, after_out}
+use Rattle.ct_resv.specs.Changes.{Outcome, added, with_key, ends_without, reservation_without}
+use Rattle.ct_resv.specs.Changes.{is_named, is_left, left_of}
+use Rattle.ct_resv.specs.Actions.{after_out}
 use Rattle.ct_resv.specs.Soundness.{are_apart, is_held, IsSound}
 use Rattle.ct_resv.proofs.Sameness.{same_is_equal, differ_swapped, none_kept, stays_registered, some_registrant}
 use Rattle.ct_resv.proofs.Walk.{StandsWithout, Each, chosen, each_action}

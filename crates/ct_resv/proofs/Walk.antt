@@ -1,5 +1,5 @@
 -- What holds of each way in which an action ends holds of every action.
-use Rattle.std.proofs.Common.{◌≡◌, ℕ, List, Bool, true, false, not, ◌&&◌, ◌==◌, if◌then◌else◌, Option, None, Some, refl}
+use Rattle.std.proofs.Common.{◌≡◌, ℕ, Bool, true, false, not, ◌&&◌, ◌==◌, if◌then◌else◌, Option, None, Some, refl}
 use Rattle.std.specs.List.{list_any}
 use Rattle.ct_word.specs.declared.names.Nexus.{Nexus}
 use Rattle.ct_cdb.specs.declared.choices.ReservationType.{ReservationType}
@@ -16,7 +16,7 @@ use Rattle.ct_resv.specs.Registering.{is_registered, has_key, is_held_by_all, is
 use Rattle.ct_resv.specs.Changes.{Outcome, refused, unchanged, added, rekeyed, unregistered, reserved, released, cleared}
 use Rattle.ct_resv.specs.Changes.{is_named, removed, preempted, is_same_type}
 use Rattle.ct_resv.specs.Actions.{by_registrant, registering, registering_again, after_register, after_register_ignoring}
-use Rattle.ct_resv.specs.Actions.{reserving, after_reserve, releasing, after_release, after_clear, is_preempted}
+use Rattle.ct_resv.specs.Actions.{reserving, releasing, is_preempted}
 use Rattle.ct_resv.specs.Actions.{preempting_by_key, preempting_all, preempting, after_preempt, after_out}
 use Rattle.ct_resv.proofs.Sameness.{has_key_registered}
 

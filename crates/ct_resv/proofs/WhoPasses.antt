@@ -1,5 +1,5 @@
 -- Whose commands pass.
-use Rattle.std.proofs.Common.{◌≡◌, List, Bool, true, false, Option, None, Some, refl, subst}
+use Rattle.std.proofs.Common.{◌≡◌, List, true, Option, None, Some, refl, subst}
 use Rattle.ct_word.specs.Nexuses.{is_same_nexus}
 use Rattle.ct_word.specs.declared.names.Nexus.{Nexus}
 use Rattle.ct_cdb.specs.declared.profile.Class.{Class}

@@ -1,6 +1,6 @@
 -- Which commands a persistent reservation lets through (SPC-4, 5.12, the table of commands allowed in its presence, by
 -- the class of a command).
-use Rattle.std.specs.Prelude.{List, Bool, true, Option, None, Some}
+use Rattle.std.specs.Prelude.{Bool, true, Option, None, Some}
 use Rattle.ct_word.specs.declared.names.Nexus.{Nexus}
 use Rattle.ct_cdb.specs.declared.profile.Class.{Class}
 use Rattle.ct_cdb.specs.declared.profile.Class.TheVariants as class

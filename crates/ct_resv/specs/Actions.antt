@@ -1,5 +1,5 @@
 -- PERSISTENT RESERVE OUT (SPC-4, 6.16): one equation a service action.
-use Rattle.std.specs.Prelude.{ℕ, zero, suc, List, Bool, true, false, not, ◌==◌, ◌&&◌, if◌then◌else◌, Option, None, Some}
+use Rattle.std.specs.Prelude.{ℕ, List, Bool, not, ◌==◌, ◌&&◌, if◌then◌else◌, Option, None, Some}
 use Rattle.std.specs.List.{list_any}
 use Rattle.ct_word.specs.declared.names.Nexus.{Nexus}
 use Rattle.ct_cdb.specs.declared.choices.ReservationType.{ReservationType}
@@ -12,8 +12,8 @@ use Rattle.ct_resv.specs.declared.registrants.Registrant.{Registrant}
 use Rattle.ct_resv.specs.declared.reservations.Reservation.{Reservation}
 use Rattle.ct_resv.specs.declared.reservations.Reservations.{Reservations}
 use Rattle.ct_resv.specs.Registering.{is_registered, has_key, is_held_by_all, is_holder}
-use Rattle.ct_resv.specs.Changes.{Outcome, refused, unchanged, added, rekeyed, unregistered, reserved, released, cleared}
-use Rattle.ct_resv.specs.Changes.{is_named, removed, preempted, is_same_type}
+use Rattle.ct_resv.specs.Changes.{Outcome, refused, unchanged, added, rekeyed, unregistered, reserved, released}
+use Rattle.ct_resv.specs.Changes.{cleared, is_named, removed, preempted, is_same_type}
 
 -- an action of a registrant: RESERVATION KEY has to be its own key, else it ends with RESERVATION CONFLICT
 abbrev pub by_registrant : Nexus → ResvList → Reservations → Outcome → Outcome
@@ -67,8 +67,8 @@ after_release nexus kind keys state = by_registrant nexus keys state (releasing 
 abbrev pub after_clear : Nexus → ResvList → Reservations → Outcome
 after_clear nexus keys state = by_registrant nexus keys state (cleared nexus state)
 
--- PREEMPT and PREEMPT AND ABORT (SPC-4, 5.12, preempting): the named registrants are those with this key; 0 names all of
--- them, where all hold the reservation
+-- PREEMPT and PREEMPT AND ABORT (SPC-4, 5.12, preempting): the named registrants are those with this key; 0 names all
+-- of them, where all hold the reservation
 -- one registrant holds the reservation, and is named
 abbrev pub is_preempted : ℕ → List Registrant → Reservation → Bool
 is_preempted key registrants reservation =
@@ -90,7 +90,8 @@ preempting_all nexus kind state (Some reservation) =
 abbrev pub preempting : Nexus → ReservationType → ℕ → Reservations → Outcome
 preempting nexus kind key state =
     if key == 0 then preempting_all nexus kind state state.reservation
-    else if list_any (is_named (named.Key key)) state.registrants then preempting_by_key nexus kind key state state.reservation
+    else if list_any (is_named (named.Key key)) state.registrants
+    then preempting_by_key nexus kind key state state.reservation
     else refused Conflict state
 
 abbrev pub after_preempt : Nexus → ReservationType → ResvList → Reservations → Outcome

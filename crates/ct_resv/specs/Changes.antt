@@ -121,8 +121,8 @@ abbrev pub is_named : Named → Registrant → Bool
 is_named (named.Key key) registrant = registrant.key == key
 is_named named.Everyone registrant = true
 
--- a nexus removes the other registrants that are named, who are told that their registrations are preempted. It keeps its
--- own registration
+-- a nexus removes the other registrants that are named, who are told that their registrations are preempted. It keeps
+-- its own registration
 abbrev pub is_removed : Nexus → Named → Registrant → Bool
 is_removed nexus who registrant = is_named who registrant && is_other nexus registrant
 

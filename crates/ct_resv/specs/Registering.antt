@@ -1,5 +1,5 @@
 -- Registrants of a logical unit, and the holders of its persistent reservation (SPC-4, 5.12).
-use Rattle.std.specs.Prelude.{ℕ, List, [], filter, Bool, true, false, not, ◌&&◌, ◌==◌, if◌then◌else◌}
+use Rattle.std.specs.Prelude.{ℕ, List, [], filter, Bool, true, false, not, ◌==◌, if◌then◌else◌}
 use Rattle.std.specs.Prelude.{Option, None, Some, option_map}
 use Rattle.std.specs.List.{list_any, find, fold}
 use Rattle.ct_word.specs.Nexuses.{is_same_nexus, no_nexuses, with_nexus}

@@ -1,7 +1,7 @@
 -- What PERSISTENT RESERVE IN returns (SPC-4, 6.15): PRGENERATION and ADDITIONAL LENGTH in four bytes each, and a list;
 -- but of REPORT CAPABILITIES. Bytes that no line names are 0.
-use Rattle.std.specs.Prelude.{ℕ, ◌+◌, ◌*◌, List, [], ◌∷◌, ◌++◌, length, replicate, take, Bool, true, false, if◌then◌else◌}
-use Rattle.std.specs.Prelude.{Option, None, Some, unwrap_or}
+use Rattle.std.specs.Prelude.{ℕ, ◌+◌, ◌*◌, List, [], ◌∷◌, ◌++◌, length, replicate, take, Bool, true, false}
+use Rattle.std.specs.Prelude.{if◌then◌else◌, Option, None, Some, unwrap_or}
 use Rattle.std.specs.List.{flat_map}
 use Rattle.ct_word.specs.Fields.{bytes_of}
 use Rattle.ct_word.specs.declared.names.Nexus.{Nexus}
@@ -24,8 +24,8 @@ key_entry registrant = bytes_of 8 registrant.key
 abbrev pub keys_listed : List Registrant → List ℕ
 keys_listed registrants = flat_map key_entry registrants
 
--- READ RESERVATION: the key of the holder, 0 where every registrant holds it, in eight bytes; five zeros; SCOPE and TYPE;
--- two zeros. Nothing where nothing is reserved
+-- READ RESERVATION: the key of the holder, 0 where every registrant holds it, in eight bytes; five zeros; SCOPE and
+-- TYPE; two zeros. Nothing where nothing is reserved
 abbrev pub key_reported : List Registrant → Reservation → ℕ
 key_reported registrants reservation =
     if is_held_by_all reservation.kind then 0 else unwrap_or (key_of reservation.holder registrants) 0

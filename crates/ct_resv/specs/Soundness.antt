@@ -1,5 +1,5 @@
 -- What every state keeps: registrants are few and apart, and who holds the reservation is registered.
-use Rattle.std.specs.Prelude.{◌≡◌, ◌≤◌, ℕ, List, [], ◌∷◌, length, Bool, true, not, ◌&&◌, ◌==◌, if◌then◌else◌}
+use Rattle.std.specs.Prelude.{◌≡◌, ◌≤◌, List, [], ◌∷◌, length, Bool, true, not, ◌&&◌, ◌==◌, if◌then◌else◌}
 use Rattle.std.specs.Prelude.{Option, None, Some}
 use Rattle.ct_word.specs.declared.limit.TheConstants.{MOST_REGISTRANTS}
 use Rattle.ct_resv.specs.declared.registrants.Registrant.{Registrant}

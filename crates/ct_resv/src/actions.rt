@@ -19,10 +19,10 @@ use ct_word::limit::MOST_REGISTRANTS;
 use ct_word::{Nexus, NexusSet};
 
 impl Reservations {
-    /// Does what PERSISTENT RESERVE OUT (SPC-4, 6.16) of a nexus asks for. Conflict where the reservation key isn't that of
-    /// the nexus, but where the action doesn't ask for it, where another nexus holds the reservation that is asked for, and
-    /// where nobody is preempted; Full where the nexus would be the 65th registrant; BadRelease where a holder names
-    /// another type; BadKey where nobody is preempted by the key 0. At a fault nothing changes.
+    /// Does what PERSISTENT RESERVE OUT (SPC-4, 6.16) of a nexus asks for. Conflict where the reservation key isn't that
+    /// of the nexus, but where the action doesn't ask for it, where another nexus holds the reservation that is asked
+    /// for, and where nobody is preempted; Full where the nexus would be the 65th registrant; BadRelease where a holder
+    /// names another type; BadKey where nobody is preempted by the key 0. At a fault nothing changes.
     #[tactic(auto, unfolding(crate::specs::Actions::after_out))]
     pub fn out(
         &mut self,
@@ -112,7 +112,8 @@ impl Reservations {
         }
     }
 
-    /// Ends the reservation that a nexus held which isn't registered any more, and returns which of the others are told.
+    /// Ends the reservation that a nexus held which isn't registered any more, and returns which of the others are
+    /// told.
     fn end_without(&mut self, nexus: Nexus, others: NexusSet) -> NexusSet
         ensures told { others ≡ nexuses_of self.old.registrants →
             result ≡ released_without nexus self.old.registrants self.old.reservation }
@@ -202,7 +203,8 @@ impl Reservations {
 
     /// Which nexuses are told that a nexus released a reservation of this type.
     fn told_of_release(&self, nexus: Nexus, kind: ReservationType) -> NexusSet
-        ensures { result ≡ (if is_told_of_release kind then nexuses_of (others_of nexus self.now.registrants) else no_nexuses) }
+        ensures { result ≡
+            (if is_told_of_release kind then nexuses_of (others_of nexus self.now.registrants) else no_nexuses) }
     {
         if is_registrants_only(kind) || is_held_by_all(kind) {
             self.registrants.others(nexus)

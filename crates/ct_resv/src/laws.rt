@@ -15,8 +15,8 @@ ghost use Rattle.ct_resv.specs.Actions.{after_out};
 ghost use Rattle.ct_resv.specs.Reports.{whole_reserve_in_data, reserve_in_data, listed_length};
 ghost use Rattle.ct_resv.specs.Soundness.{IsSound};
 
-/// No nexus is registered twice, registrants are at most 64, and who holds the reservation is registered: at the beginning,
-/// and behind every action.
+/// No nexus is registered twice, registrants are at most 64, and who holds the reservation is registered: at the
+/// beginning, and behind every action.
 pub fn always_sound()
     ensures open { IsSound no_reservations }
     ensures out { (state : AnyReservations) (nexus : Nexus) (action : ReserveOut) (list : ResvList) →
@@ -29,7 +29,8 @@ pub fn refusals_change_nothing()
         IfErr (after_out state nexus action list).answer (λ _. (after_out state nexus action list).after ≡ state) }
 {}
 
-/// How many bytes the data of each action have, before and after they are cut. They are at most those of 64 registrants.
+/// How many bytes the data of each action have, before and after they are cut. They are at most those of 64
+/// registrants.
 pub fn lengths()
     ensures whole { (state : AnyReservations) (action : ReserveIn) →
         length (whole_reserve_in_data state action) ≡ listed_length state action }

@@ -1,5 +1,5 @@
-//! Persistent reservations (SPC-4, 5.12): which nexuses are registered with a logical unit, which of them holds it, whose
-//! commands pass, and what PERSISTENT RESERVE OUT and PERSISTENT RESERVE IN make of it.
+//! Persistent reservations (SPC-4, 5.12): which nexuses are registered with a logical unit, which of them holds it,
+//! whose commands pass, and what PERSISTENT RESERVE OUT and PERSISTENT RESERVE IN make of it.
 #![tactic(auto)]
 
 mod access;
@@ -9,7 +9,6 @@ mod fault;
 mod laws;
 mod registrants;
 mod report;
-mod report_data;
 mod reservations;
 
 pub use done::Done;

@@ -39,7 +39,8 @@ impl Named {
     }
 }
 
-/// The registrants of a logical unit in the order of their registration, at most 64, of fixed size. Contracts see a list.
+/// The registrants of a logical unit in the order of their registration, at most 64, of fixed size. Contracts see a
+/// list.
 #[derive(Debug, Drop)]
 pub struct Registrants {
     list: [Registrant; MOST],
@@ -70,6 +71,16 @@ impl Registrants {
         Registrants {
             list: [NOBODY; MOST],
             count: 0,
+        }
+    }
+
+    /// The same registrants once more.
+    pub(crate) fn copied(&self) -> Registrants
+        ensures { result ≡ self.now }
+    {
+        Registrants {
+            list: self.list,
+            count: self.count,
         }
     }
 

@@ -5,13 +5,16 @@ ghost use Rattle.ct_resv.specs.Reports.{keys_listed, key_reported, reservation_l
 ghost use Rattle.ct_resv.specs.Reports.{holding_of, statuses_listed, headed, whole_reserve_in_data, reserve_in_data};
 
 use crate::registrants::Registrant;
-use crate::report_data::ReportData;
 use crate::reservations::{Reservation, Reservations, is_held_by_all};
 use ct_cdb::ReserveIn;
+use ct_param::ShortBytes;
 use ct_word::{Nexus, Reserve};
 
 /// What REPORT CAPABILITIES returns.
 const CAPABILITIES: [u8; 8] = [0x00, 0x08, 0x00, 0x80, 0xea, 0x01, 0x00, 0x00];
+
+/// A header, and 64 registrants with their full status.
+type ReportData = ShortBytes<3080>;
 
 /// Bytes of a registrant of READ FULL STATUS.
 const STATUS: usize = 48;

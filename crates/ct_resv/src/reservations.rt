@@ -34,6 +34,17 @@ impl Reservations {
         }
     }
 
+    /// The same reservations once more, on which an action can be tried.
+    pub fn copied(&self) -> Reservations
+        ensures { result ≡ self.now }
+    {
+        Reservations {
+            generation: self.generation,
+            registrants: self.registrants.copied(),
+            reservation: self.reservation,
+        }
+    }
+
     /// A nexus holds the reservation.
     pub fn holds(&self, nexus: Nexus) -> bool
         ensures { result ≡ holds self.now nexus }

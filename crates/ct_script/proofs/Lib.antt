@@ -5,3 +5,4 @@ pub mod Judging
 pub mod Names
 pub mod Saying
 pub mod ByLines
+pub mod Asking

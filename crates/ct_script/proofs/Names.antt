@@ -135,7 +135,7 @@ or_left_false : (a b : Bool) → (a || b) ≡ false → a ≡ false
 or_left_false true b h = absurd (cc)
 or_left_false false b h = refl
 
-none_acted : (lines : List Line) (word : Word) → is_misnamed lines word ≡ false → word_acts word ≡ false → list_any acts lines ≡ false
+pub none_acted : (lines : List Line) (word : Word) → is_misnamed lines word ≡ false → word_acts word ≡ false → list_any acts lines ≡ false
 none_acted lines (Lun lun blocks) h e = or_left_false (list_any acts lines) _ h
 none_acted lines (Port port node) h e = or_left_false (list_any acts lines) _ h
 none_acted lines (Map n x lun) h e =

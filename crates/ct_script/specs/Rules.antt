@@ -1,6 +1,7 @@
 -- What a line needs of the lines before it.
-use Rattle.std.specs.Prelude.{◌≡◌, ◌≤◌, ℕ, take, drop, List, [], ◌∷◌, ◌++◌, ◌==◌, nat_lt, Bool, true, false, ◌&&◌, ◌||◌, not, length, sum_by, count_by, Result, Ok, Err}
+use Rattle.std.specs.Prelude.{◌≡◌, ◌≤◌, ℕ, take, drop, List, [], ◌∷◌, ◌++◌, ◌==◌, nat_lt, Bool, true, false, ◌&&◌, ◌||◌, not, length, sum_by, count_by, Option, None, Some, Result, Ok, Err}
 use Rattle.std.specs.List.{list_any, list_all, All}
+use Rattle.std.specs.Option.{option_or, unwrap_or}
 use Rattle.ct_word.specs.declared.limit.TheConstants.{MOST_BLOCKS, MOST_LINES, MOST_COMMANDS}
 use Rattle.ct_word.specs.declared.limit.TheConstants.{MOST_DATA_OUT, MOST_DATA_OUT_TOGETHER, MOST_OPERATIONS}
 use Rattle.ct_word.specs.Nexuses.{IsNexus, is_same_nexus}
@@ -81,25 +82,41 @@ data_bytes line = word_data_bytes line.word
 abbrev pub is_long : Word → Bool
 is_long word = nat_lt MOST_DATA_OUT (word_data_bytes word)
 
--- the block operations that a CDB asks for
-abbrev pub cdb_asked : Result Cdb CdbFault → ℕ
-cdb_asked (Ok cdb) = asked_of cdb.op
-cdb_asked (Err fault) = 0
+-- the blocks of the unit that the lines declare, if they declare one
+abbrev pub word_blocks : Word → Option ℕ
+word_blocks (Lun lun blocks) = Some blocks
+word_blocks _ = None
+
+abbrev pub declared_blocks : List Line → Option ℕ
+declared_blocks [] = None
+declared_blocks (line ∷ lines) = option_or (word_blocks line.word) (declared_blocks lines)
+
+-- the block operations that a CDB with its data-out asks for, on a disk of so many blocks
+abbrev pub cdb_asked : Result Cdb CdbFault → List ℕ → ℕ → ℕ
+cdb_asked (Ok cdb) out blocks = asked_of cdb.op out blocks
+cdb_asked (Err fault) out blocks = 0
 
 -- the block operations that a line asks for
-abbrev pub word_line_asked : Word → ℕ
-word_line_asked (Cmd n x tag attr cdb out) = cdb_asked (cdb_of cdb)
-word_line_asked _ = 0
+abbrev pub word_line_asked : ℕ → Word → ℕ
+word_line_asked blocks (Cmd n x tag attr cdb out) = cdb_asked (cdb_of cdb) out blocks
+word_line_asked blocks _ = 0
 
-abbrev pub line_asked : Line → ℕ
-line_asked line = word_line_asked line.word
+abbrev pub line_asked : ℕ → Line → ℕ
+line_asked blocks line = word_line_asked blocks line.word
+
+-- the block operations that lines ask for, on the disk that they declare
+abbrev pub disk_blocks : List Line → ℕ
+disk_blocks lines = unwrap_or (declared_blocks lines) 0
+
+unfoldable pub asked_by : List Line → ℕ
+asked_by lines = sum_by (line_asked (disk_blocks lines)) lines
 
 -- lines pass a limit: on commands, on DATA of all of them, or on block operations
 abbrev pub is_over : List Line → Bool
 is_over lines =
     nat_lt MOST_COMMANDS (count_by is_command lines)
     || nat_lt MOST_DATA_OUT_TOGETHER (sum_by data_bytes lines)
-    || nat_lt MOST_OPERATIONS (sum_by line_asked lines)
+    || nat_lt MOST_OPERATIONS (asked_by lines)
 
 -- a line behind these passes a limit: on lines, on the DATA of one, or on what all of them add up to
 abbrev pub passes_limit : List Line → Line → Bool

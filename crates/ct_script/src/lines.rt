@@ -1,13 +1,14 @@
 //! From a script's bytes to its lines.
 
-ghost use Rattle.std.specs.Prelude.{◌≡◌, ◌≤◌, ◌==◌, ◌++◌, ◌∷◌, [], false, length, if◌then◌else◌, IfOk, OnOk};
-ghost use Rattle.ct_script.specs.Rules.{IsInRange, is_misnamed, is_over, passes_limit};
+ghost use Rattle.std.specs.Prelude.{◌≡◌, ◌≤◌, ◌==◌, ◌++◌, ◌∷◌, [], false, length, nat_lt, if◌then◌else◌, IfOk, OnOk};
+ghost use Rattle.ct_script.specs.Rules.{IsInRange, is_misnamed, is_over, passes_limit, disk_blocks, asked_by};
+ghost use Rattle.ct_script.specs.Rules.{line_asked as asked_in};
 ghost use Rattle.ct_script.specs.Lines.{IsFaultless};
 ghost use Rattle.ct_script.specs.Scripts.{line_of, script_of, fault_at, Gives, GivesLine};
 
 use crate::forms::read_word;
 use crate::parts::Parts;
-use crate::rules::{acts, data_bytes, is_command, is_misnamed, line_asked};
+use crate::rules::{acts, blocks_of, data_bytes, is_command, is_misnamed, line_asked};
 use crate::script::{Line, ParseError, Script, ScriptFault, What, Word};
 use ct_word::NoMemory;
 use ct_word::limit::{
@@ -80,6 +81,8 @@ struct Draft {
     lines: Vec<Line>,
     // How many lines set up; they come first.
     settings: usize,
+    // Of the disk, once a line declares it.
+    blocks: Option<u32>,
     commands: u64,
     bytes: u64,
     operations: u64,
@@ -95,7 +98,7 @@ impl Model for Draft {
 
     ghost view = { λ d. d.lines.items };
 
-    ghost invariant = { λ d. AddUp d.lines.items d.settings d.commands d.bytes d.operations };
+    ghost invariant = { λ d. AddUp d.lines.items d.settings d.blocks d.commands d.bytes d.operations };
 }
 
 impl Draft {
@@ -105,6 +108,7 @@ impl Draft {
         Draft {
             lines: Vec::new(alloc),
             settings: 0,
+            blocks: None,
             commands: 0,
             bytes: 0,
             operations: 0,
@@ -120,13 +124,28 @@ impl Draft {
     }
 
     fn passes_limit(&self, line: &Line) -> bool
+        requires { is_misnamed self.now line.now.word ≡ false }
         ensures { result ≡ passes_limit self.now line.now }
     {
         line.no > MOST_LINES
             || data_bytes(line) > MOST_DATA_OUT
             || self.commands + u64::from(is_command(line)) > MOST_COMMANDS
             || self.bytes + data_bytes(line) > MOST_DATA_OUT_TOGETHER
-            || line_asked(line) > MOST_OPERATIONS - self.operations
+            || self.asks_too_much(line)
+    }
+
+    fn asks_too_much(&self, line: &Line) -> bool
+        requires { is_misnamed self.now line.now.word ≡ false }
+        ensures { result ≡ nat_lt MOST_OPERATIONS (asked_by (self.now ++ line.now ∷ [])) }
+    {
+        self.asked(line) > MOST_OPERATIONS - self.operations
+    }
+
+    // The block operations that a line asks for, on the disk that was declared.
+    fn asked(&self, line: &Line) -> u64
+        ensures { result ≡ asked_in (disk_blocks self.now) line.now }
+    {
+        line_asked(line, self.blocks.unwrap_or(0))
     }
 
     #[tactic(auto, using(crate::proofs::Names::set_up_acts, crate::proofs::Names::set_up_more))]
@@ -144,9 +163,11 @@ impl Draft {
         };
         let commands = self.commands + u64::from(is_command(&line));
         let bytes = self.bytes + data_bytes(&line);
-        let operations = self.operations + line_asked(&line);
+        let operations = self.operations + self.asked(&line);
+        let blocks = self.blocks.or(blocks_of(&line));
         self.lines.push(line)?;
         self.settings = settings;
+        self.blocks = blocks;
         self.commands = commands;
         self.bytes = bytes;
         self.operations = operations;

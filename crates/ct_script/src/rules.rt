@@ -3,7 +3,7 @@
 ghost use Rattle.std.specs.Prelude.{◌≡◌, ◌<◌, ◌^◌};
 ghost use Rattle.std.specs.List.{list_any};
 ghost use Rattle.ct_script.specs.Rules.{declares_lun, declares_port, maps, is_command, acts, is_misnamed_by};
-ghost use Rattle.ct_script.specs.Rules.{data_bytes, line_asked};
+ghost use Rattle.ct_script.specs.Rules.{data_bytes, word_blocks, line_asked};
 
 use crate::script::{Line, Word};
 use ct_cdb::asked;
@@ -105,13 +105,23 @@ pub fn data_bytes(line: &Line) -> u64
     }
 }
 
-/// The block operations that a line asks for.
-pub fn line_asked(line: &Line) -> u64
-    ensures { result ≡ line_asked line.now }
+/// The blocks of the unit that a line declares, if it declares one.
+pub fn blocks_of(line: &Line) -> Option<u32>
+    ensures { result ≡ word_blocks line.now.word }
 {
     match &line.word {
-        Word::Cmd { cdb, .. } => match cdb.decoded() {
-            Ok(cdb) => asked(&cdb.op),
+        Word::Lun { blocks, .. } => Some(*blocks),
+        _ => None,
+    }
+}
+
+/// The block operations that a line asks for, on a disk of so many blocks.
+pub fn line_asked(line: &Line, blocks: u32) -> u64
+    ensures { result ≡ line_asked blocks line.now }
+{
+    match &line.word {
+        Word::Cmd { cdb, out, .. } => match cdb.decoded() {
+            Ok(cdb) => asked(&cdb.op, out.as_slice(), blocks),
             Err(_) => 0,
         },
         _ => 0,

@@ -1,4 +1,5 @@
-//! Persistent reservations: room for 64 registrants, whose commands pass, each action in each state, and what is returned.
+//! Persistent reservations: room for 64 registrants, whose commands pass, each action in each state, and what is
+//! returned.
 
 use ct_cdb::{Class, ReservationType, ReserveIn, ReserveOut};
 use ct_param::{ListFault, ResvList, read_resv};

@@ -34,8 +34,8 @@ fn descriptors_are_read(rt: HostRuntime) {
     // the last isn't whole inside the list
     accepts(&rt, &TWO[..39], &[blocks_of(4, 4)]);
     // nor inside the length that the header says; it would leave the disk
-    let cut =
-        b"\0\x25\0\x1f\0\0\0\0\0\0\0\0\0\0\0\0\0\0\0\x20\0\0\0\0\xff\xff\xff\xff\xff\xff\xff\xff\xff\xff\xff\xff\xff\xff\xff\xff";
+    let cut = b"\0\x25\0\x1f\0\0\0\0\0\0\0\0\0\0\0\0\0\0\0\x20\0\0\0\0\
+        \xff\xff\xff\xff\xff\xff\xff\xff\xff\xff\xff\xff\xff\xff\xff\xff";
     accepts(&rt, cut, &[blocks_of(0, 32)]);
     // no blocks, in the midst of others and right behind the disk
     let none = b"\0\x36\0\x30\0\0\0\0\0\0\0\0\0\0\0\0\0\0\0\x20\0\0\0\0\

@@ -16,10 +16,11 @@ use Rattle.ct_machine.specs.declared.act.Act.{Act}
 use Rattle.ct_machine.specs.declared.act.Act.TheVariants as act
 use Rattle.ct_machine.specs.declared.act.Opening.{Opening}
 use Rattle.ct_machine.specs.States.{State, opened}
-use Rattle.ct_machine.specs.Events.{works_of}
-use Rattle.ct_machine.specs.Acts.{has_room_for, act_of}
+use Rattle.ct_machine.specs.Events.Functions.{works_of}
+use Rattle.ct_machine.specs.Acts.Arrivals.{has_room_for}
+use Rattle.ct_machine.specs.Acts.{act_of}
 use Rattle.ct_machine.specs.Runs.{replay, IsRun}
-use Rattle.ct_machine.specs.Laws.{brought, room_without, Brings}
+use Rattle.ct_machine.specs.Laws.Works.{brought, room_without, Brings}
 use Rattle.ct_script.specs.declared.script.Line.{Line}
 use Rattle.ct_script.specs.declared.script.Word.{Word}
 use Rattle.ct_script.specs.declared.script.Word.TheVariants.{Lun, Port, Map, Cmd, Step, Drain, Sync}
@@ -177,8 +178,8 @@ opened_is : (o : Opening) → replay o [] ≡ opened o
 unfolding replay
 opened_is o = refl
 
-pub all_come : ActsBring → WorksKept → (n : ℕ) (lines : List Line) (end : Point) → IsPlayed (opening_of n lines) lines end → IsRun (opening_of n lines) end.journal → works_in end.journal ≡ commands_of lines
-all_come law kept n lines end h run =
+pub all_come : ActsBring → WorksKept → (n : ℕ) (lines : List Line) (first : ℕ) (end : Point) → IsPlayed (opening_of n lines) lines first end → IsRun (opening_of n lines) end.journal → works_in end.journal ≡ commands_of lines
+all_come law kept n lines first end h run =
     sym (kept o end.journal run) ∙ drained.works ∙ append-nil (works_of (replay o h.last.journal)) ∙ came.works ∙ ap (λ ws. ws ++ commands_of lines) (ap works_of (opened_is o))
   where
     o : Opening
@@ -188,7 +189,7 @@ all_come law kept n lines end h run =
     size = ap (λ (s : State). length s.blocks) (opened_is o) ∙ length-replicate n (replicate 512 0)
 
     came : Came o [] h.last.journal (commands_of lines) (room_of n [])
-    came = lines_come law o n lines (record { journal = []; faults = h.from }) h.last size (ap (λ (s : State). s.room) (opened_is o)) h.lines_done
+    came = lines_come law o n lines (record { journal = []; faults = first }) h.last size (ap (λ (s : State). s.room) (opened_is o)) h.lines_done
 
     drained : Came o h.last.journal end.journal [] (replay o h.last.journal).room
     drained = drains_none law o h.last end h.drained

@@ -1,3 +1,4 @@
+pub mod Bounds
 pub mod Ranges
 pub mod Draining
 pub mod Arriving

@@ -11,7 +11,7 @@ use Rattle.ct_exec.specs.Executions.{plan_in}
 use Rattle.ct_machine.specs.declared.act.Opening.{Opening}
 use Rattle.ct_script.specs.declared.script.Line.{Line}
 use Rattle.ct_script.specs.declared.script.Word.{Word}
-use Rattle.ct_script.specs.declared.script.Word.TheVariants.{Lun, Cmd}
+use Rattle.ct_script.specs.declared.script.Word.TheVariants.{Cmd}
 use Rattle.ct_script.specs.Rules.{is_command}
 
 -- the command that a line sends; its nexus sees the unit alone, under the number 0
@@ -47,16 +47,3 @@ opening_of blocks lines =
       room =
           room_of blocks lines;
     }
-
--- the blocks of the unit that the lines declare, if they declare one
-abbrev pub first_of : Option ℕ → Option ℕ → Option ℕ
-first_of (Some blocks) others = Some blocks
-first_of None others = others
-
-abbrev pub word_blocks : Word → Option ℕ
-word_blocks (Lun lun blocks) = Some blocks
-word_blocks _ = None
-
-abbrev pub declared_blocks : List Line → Option ℕ
-declared_blocks [] = None
-declared_blocks (line ∷ lines) = first_of (word_blocks line.word) (declared_blocks lines)

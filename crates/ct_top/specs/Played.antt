@@ -1,10 +1,11 @@
 -- What `play` does: the acts that the lines of a script name, in order, and all that can still be done at the end.
-use Rattle.std.specs.Prelude.{◌≡◌, ◌<◌, ◌≤◌, ℕ, IsSome, List, [], ◌∷◌, ◌++◌, Option, Some, None}
+use Rattle.std.specs.Prelude.{◌≡◌, ◌+◌, ℕ, List, [], ◌∷◌, ◌++◌, Option, Some, None}
 use Rattle.ct_word.specs.declared.limit.TheConstants.{MOST_STEP}
 use Rattle.ct_word.specs.declared.names.Node.TheVariants.{A}
 use Rattle.ct_book.specs.declared.work.Command.{Command}
 use Rattle.ct_book.specs.declared.work.Work.TheVariants as work
 use Rattle.ct_book.specs.declared.event.Logged.{Logged}
+use Rattle.ct_plan.specs.Pieces.{faults_at}
 use Rattle.ct_machine.specs.declared.act.Act.{Act}
 use Rattle.ct_machine.specs.declared.act.Act.TheVariants as act
 use Rattle.ct_machine.specs.declared.act.Answer.TheVariants as answer
@@ -25,11 +26,10 @@ pub record Point : Type 0 where
 abbrev pub point_of : PairState → Point
 point_of pair = record { journal = pair.book.journal; faults = pair.desk.faults }
 
--- the machine did an act behind a journal, with a fault of the medium only where the count of faults rose meanwhile
+-- the machine did an act behind a journal, with a fault of the medium exactly where the count of faults rose, by one
 pub record Acted (o : Opening) (done : Act) (before after : Point) : Type 0 where
   pub fault : Option ℕ
-  pub cause : IsSome fault → before.faults < after.faults
-  pub later : before.faults ≤ after.faults
+  pub counted : after.faults ≡ before.faults + faults_at fault
   pub written : after.journal ≡ before.journal ++ (act_of (replay o before.journal) done fault).journal
 
 -- the next thing to be done, by as many block operations as one step makes at most
@@ -66,9 +66,8 @@ abbrev pub ByLines : Opening → List Line → Point → Point → Type 0
 ByLines o [] before after = after ≡ before
 ByLines o (line ∷ lines) before after = (between : Point) × ByLine o line.no line.word before between × ByLines o lines between after
 
--- the lines were done from an empty journal and some count of faults on, and then all that could still be done
-pub record IsPlayed (o : Opening) (lines : List Line) (end : Point) : Type 0 where
-  pub from : ℕ
+-- the lines were done from an empty journal and a first count of faults on, and then all that could still be done
+pub record IsPlayed (o : Opening) (lines : List Line) (first : ℕ) (end : Point) : Type 0 where
   pub last : Point
-  pub lines_done : ByLines o lines (record { journal = []; faults = from }) last
+  pub lines_done : ByLines o lines (record { journal = []; faults = first }) last
   pub drained : Drains o last end

@@ -7,14 +7,16 @@ use Rattle.ct_io.specs.Streams.{GivesAll}
 use Rattle.ct_book.specs.Journals.{works_in}
 use Rattle.ct_machine.specs.Runs.{replay, IsRun}
 use Rattle.ct_machine.specs.Serial.{serial_disk}
-use Rattle.ct_machine.specs.Laws.{IsLegal, IsLawful}
+use Rattle.ct_machine.specs.Laws.Legal.{IsLegal}
+use Rattle.ct_machine.specs.Laws.{IsLawful}
 use Rattle.ct_script.specs.declared.script.Line.{Line}
 use Rattle.ct_script.specs.declared.script.ScriptFault.{ScriptFault}
 use Rattle.ct_script.specs.Scripts.{script_of}
 use Rattle.ct_top.specs.declared.command.Command.{Command}
 use Rattle.ct_top.specs.declared.command.Command.TheVariants.{Play}
 use Rattle.ct_top.specs.declared.report.UnitEnd.{UnitEnd}
-use Rattle.ct_top.specs.Commands.{commands_of, declared_blocks, opening_of}
+use Rattle.ct_script.specs.Rules.{declared_blocks}
+use Rattle.ct_top.specs.Commands.{commands_of, opening_of}
 use Rattle.ct_top.specs.Played.{IsPlayed}
 use Rattle.ct_top.specs.Report.{report_text}
 
@@ -35,7 +37,7 @@ pub record WasRead (old new : Option (List ℕ)) (says : Result (List Line) Scri
 -- journal leads, and these are the blocks behind its commands executed one at a time, in the order in which they ended
 pub record IsEnd (blocks : ℕ) (lines : List Line) (end : UnitEnd) : Type 0 where
   pub lun : end.lun ≡ record { 0 = 0 }
-  pub played : IsPlayed (opening_of blocks lines) lines (record { journal = end.book.journal; faults = 0 })
+  pub played : IsPlayed (opening_of blocks lines) lines 0 (record { journal = end.book.journal; faults = 0 })
   pub run : IsRun (opening_of blocks lines) end.book.journal
   pub lawful : IsLawful (opening_of blocks lines) end.book.journal
   pub legal : IsLegal (opening_of blocks lines) end.book.journal

@@ -5,7 +5,7 @@ ghost use Rattle.ct_plan.specs.Plans.{plan_of};
 ghost use Rattle.ct_book.specs.Journals.{works_in};
 ghost use Rattle.ct_machine.specs.Runs.{replay, IsRun};
 ghost use Rattle.ct_pair.specs.Pairs.{medium_cuts};
-ghost use Rattle.ct_script.specs.Rules.{IsInRange, line_asked};
+ghost use Rattle.ct_script.specs.Rules.{IsInRange};
 ghost use Rattle.ct_script.specs.Lines.{IsWithin};
 ghost use Rattle.ct_top.specs.Commands.{commands_of, pieces_in, room_of, opening_of};
 ghost use Rattle.ct_top.specs.Played.{point_of, Drains, ByLine, ByLines, IsPlayed};
@@ -35,8 +35,8 @@ pub fn play_on<B: Backend>(alloc: Global, script: Script, medium: B) -> Result<E
     requires zeros { B.blocks medium ≡ replicate (length (B.blocks medium)) (replicate 512 0) }
     requires unfailed { B.faults medium ≡ 0 }
     ensures lun { IfOk result (λ end. end.lun ≡ record { 0 = 0 }) }
-    ensures played { IfOk result (λ end. IsPlayed (opening_of (length (B.blocks medium)) script) script (record { journal = end.book.journal; faults = B.faults end.medium })) }
-    ensures cuts { IfOk result (λ end. medium_cuts end.book.journal ≤ B.faults end.medium) }
+    ensures played { IfOk result (λ end. IsPlayed (opening_of (length (B.blocks medium)) script) script (B.faults medium) (record { journal = end.book.journal; faults = B.faults end.medium })) }
+    ensures cuts { IfOk result (λ end. medium_cuts end.book.journal ≡ B.faults end.medium) }
     ensures run { IfOk result (λ end. IsRun (opening_of (length (B.blocks medium)) script) end.book.journal) }
     ensures arrived { IfOk result (λ end. works_in end.book.journal ≡ commands_of script) }
     ensures disk { IfOk result (λ end. B.blocks end.medium ≡ (replay (opening_of (length (B.blocks medium)) script) end.book.journal).blocks) }
@@ -53,7 +53,8 @@ pub fn play_on<B: Backend>(alloc: Global, script: Script, medium: B) -> Result<E
 
 // Exactly the room that the commands of these lines take, on a disk of so many blocks.
 fn room_of(lines: &[Line], blocks: u32) -> Room
-    requires { IsWithin lines.now }
+    requires within { IsWithin lines.now }
+    requires few { blocks ≤ MOST_BLOCKS }
     ensures { result ≡ room_of blocks lines.now }
 {
     let mut commands = 0;

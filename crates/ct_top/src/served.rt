@@ -5,7 +5,7 @@ ghost use Rattle.std.specs.Io.KnownBytes.{Appends};
 ghost use Rattle.ct_word.specs.Causes.{Rose, end_of_u64};
 ghost use Rattle.ct_io.specs.Streams.{IsLongerThan};
 ghost use Rattle.ct_top.specs.Exits.{IfScript, IsWritten, IsRefusal, status_of};
-ghost use Rattle.ct_top.specs.Commands.{declared_blocks};
+ghost use Rattle.ct_script.specs.Rules.{declared_blocks};
 ghost use Rattle.ct_top.specs.Report.{report_text};
 ghost use Rattle.ct_top.specs.Served.{command_of, WasRead, AreEnds, IsEnd, IsReported, IsCutShort, IsPlayable};
 

@@ -258,6 +258,30 @@ fn tells_the_first_fault_of_limit(rt: HostRuntime) -> Result<(), Fail> {
 }
 
 #[test]
+fn counts_the_blocks_of_unmaps(rt: HostRuntime) -> Result<(), Fail> {
+    let alloc = rt.alloc();
+    let head = "lun 0 blocks 65536\nport 0 a\nmap 1 0 0 0\n";
+    let mut script = Vec::from_slice(alloc, head.as_bytes())?;
+    // all blocks, four times; the block behind the last, which isn't accepted; the first block
+    let lists = [
+        (1, "00*8.00010000", Exit::Done),
+        (2, "00*8.00010000", Exit::Done),
+        (3, "00*8.00010000", Exit::Done),
+        (4, "00*8.00010000", Exit::Done),
+        (5, "00*5.010000.00000001", Exit::Done),
+        (6, "00*8.00000001", fault(9, What::Limit)),
+    ];
+    for (tag, range, exit) in lists {
+        let line = format!(in alloc;
+            "cmd 1 0 0 {tag} simple 42000000000000001800 0016001000000000.{range}.00*4\n"
+        )?;
+        script.extend_from_slice(line.as_bytes())?;
+        assert_eq!(rt; judge(alloc, script.as_slice())?, exit, "at {tag}");
+    }
+    Ok(())
+}
+
+#[test]
 fn judges_the_length_of_data(rt: HostRuntime) -> Result<(), Fail> {
     let alloc = rt.alloc();
     let cases = [

@@ -1,15 +1,17 @@
 //! The program as a function of its words, a source and a sink.
 
-ghost use Rattle.std.specs.Prelude.{◌≡◌, map, string_bytes, IfOk, IfErr, Err};
+ghost use Rattle.std.specs.Prelude.{◌≡◌, drop, map, string_bytes, IfOk, IfErr, Err};
+ghost use Rattle.std.specs.Vec.Iter.{into_iter_items};
 ghost use Rattle.std.specs.Process.{exit_status};
 ghost use Rattle.std.specs.IoError.{error_kind};
 ghost use Rattle.ct_top.specs.Exits.{status_of, IsServed, IsUntouched};
-ghost use Rattle.ctltarget.specs.Words.{exit_without_words};
+ghost use Rattle.ct_top.specs.declared.served.Exit.TheVariants as exits;
+ghost use Rattle.ctltarget.specs.Words.{exit_without_words, Ended, EndedWithout};
 
 use crate::reason::reason_for;
 use ct_io::{Sink, Source};
 use ct_top::{Exit, Served, target_one};
-use std::alloc::Global;
+use std::alloc::{AllocError, Global};
 use std::env::Args;
 use std::io::{self, ErrorKind};
 use std::process::ExitCode;
@@ -21,7 +23,12 @@ pub fn run<S: Source, K: Sink>(
     args: io::Result<Args>,
     source: &mut S,
     sink: &mut K,
-) -> ExitCode {
+) -> ExitCode
+    ensures served { IfOk args (λ args. Ended S.left S.faults K.held K.faults
+        (into_iter_items args) source.old source.new sink.old sink.new (exit_status result)) }
+    ensures no_words { IfErr args (λ error. EndedWithout source.old source.new sink.old sink.new
+        (exit_without_words (error_kind error)) (exit_status result)) }
+{
     let served = serve(rt.alloc(), words_of(rt.alloc(), args), source, sink);
     if let Some(reason) = reason_for(&served) {
         let _ = eprintln!(rt; "ctltarget: {reason}");
@@ -38,16 +45,30 @@ fn exit_code(served: &Served) -> ExitCode
 
 // The words behind the program's name. Words that aren't text are no written command.
 fn words_of(alloc: Global, args: io::Result<Args>) -> Result<Vec<String>, Exit>
+    ensures words { IfOk args (λ args. IfOk result (λ words. words.items ≡ drop 1 (into_iter_items args))) }
+    ensures memory { IfOk args (λ args. IfErr result (λ exit. exit ≡ exits.Memory)) }
     ensures none { IfErr args (λ error. result ≡ Err (exit_without_words (error_kind error))) }
 {
     let args = match args {
         Ok(args) => args,
         Err(error) => return Err(exit_without_words(error.kind())),
     };
-    match args.skip(1).collect(alloc) {
+    match behind_first(alloc, args) {
         Ok(words) => Ok(words),
         Err(_) => Err(Exit::Memory),
     }
+}
+
+// All words but the first.
+fn behind_first(alloc: Global, mut words: Args) -> Result<Vec<String>, AllocError>
+    ensures { IfOk result (λ kept. kept.items ≡ drop 1 (into_iter_items words)) }
+{
+    words.next();
+    let mut kept = Vec::new(alloc);
+    for word in words {
+        kept.push(word)?;
+    }
+    Ok(kept)
 }
 
 fn exit_without_words(kind: ErrorKind) -> Exit

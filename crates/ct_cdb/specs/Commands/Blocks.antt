@@ -1,6 +1,9 @@
 -- Commands that move blocks, or have them moved (SBC-3, clause 5).
-use Rattle.std.specs.Prelude.{ℕ, ◌+◌, ◌*◌, List, [], ◌∷◌, Bool, true, false}
+use Rattle.std.specs.Prelude.{ℕ, ◌+◌, ◌*◌, List, [], ◌∷◌, map, take, Bool, true, false, Result, Ok, Err}
 use Rattle.ct_word.specs.declared.limit.TheConstants.{BLOCK_SIZE}
+use Rattle.ct_param.specs.declared.fault.ListFault.{ListFault}
+use Rattle.ct_param.specs.declared.unmap.UnmapDescriptor.{UnmapDescriptor}
+use Rattle.ct_param.specs.UnmapLists.{unmap_list_of}
 use Rattle.ct_cdb.specs.declared.op.SerIdx.TheVariants.{Rd, Wr, Un, Sy}
 use Rattle.ct_cdb.specs.declared.ranges.LbaRange.{LbaRange}
 use Rattle.ct_cdb.specs.declared.profile.Profile.{Profile}
@@ -55,13 +58,25 @@ compare_and_write lba count =
 abbrev pub write_same : ℕ → ℕ → Profile
 write_same lba count = record (writing lba count) { data_out = data_of 1; need = 2; phases = PutSame ∷ [] }
 
--- UNMAP, whose ranges will be those of its data-out
-abbrev pub unmap : ℕ → Profile
-unmap list = record (still Un Writing) {
+-- UNMAP, whose ranges are the block descriptors of its parameter list, in their order; a list in fault has none
+abbrev pub range_of : UnmapDescriptor → LbaRange
+range_of descriptor = record { lba = descriptor.lba; count = descriptor.count }
+
+abbrev pub ranges_of : Result (List UnmapDescriptor) ListFault → List LbaRange
+ranges_of (Ok descriptors) = map range_of descriptors
+ranges_of (Err fault) = []
+
+-- the list stands in the first bytes of the data-out, on a disk of so many blocks
+abbrev pub unmapped : ℕ → List ℕ → ℕ → List LbaRange
+unmapped list out blocks = ranges_of (unmap_list_of blocks (take list out))
+
+abbrev pub unmap : ℕ → List ℕ → ℕ → Profile
+unmap list out blocks = record (still Un Writing) {
   needs_started = true;
   is_write = true;
   data_out = list;
   need = 1;
+  ranges = unmapped list out blocks;
   phases = Zero ∷ [];
 }
 

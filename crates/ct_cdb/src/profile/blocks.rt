@@ -2,12 +2,13 @@
 
 ghost use Rattle.std.specs.Prelude.{◌≡◌};
 ghost use Rattle.ct_cdb.specs.Commands.Blocks.{data_of, reading, writing, read, write, write_and_verify, verify};
-ghost use Rattle.ct_cdb.specs.Commands.Blocks.{compare_and_write, write_same, unmap, synchronize_cache};
+ghost use Rattle.ct_cdb.specs.Commands.Blocks.{compare_and_write, write_same, unmapped, unmap, synchronize_cache};
 
 use super::{Class, Phase, Profile, still};
 use crate::few::Few;
 use crate::op::SerIdx;
 use crate::ranges::Ranges;
+use ct_param::read_unmap;
 use ct_word::limit::BLOCK_SIZE;
 
 // A command that reads blocks of one range.
@@ -121,16 +122,27 @@ pub(super) fn write_same(lba: u64, count: u32) -> Profile
 }
 
 /// UNMAP
-pub(super) fn unmap(list: u16) -> Profile
-    ensures { result ≡ unmap list }
+pub(super) fn unmap(list: u16, out: &[u8], blocks: u32) -> Profile
+    ensures { result ≡ unmap list out.now blocks }
 {
     Profile {
         needs_started: true,
         is_write: true,
         data_out: u64::from(list),
         need: 1,
+        ranges: unmapped(list, out, blocks),
         phases: Few::one(Phase::Zero),
         ..still(SerIdx::Un, Class::Writing)
+    }
+}
+
+// The block descriptors of the list in so many bytes of the data-out.
+fn unmapped(list: u16, out: &[u8], blocks: u32) -> Ranges
+    ensures { result ≡ unmapped list out.now blocks }
+{
+    match read_unmap(&out[..out.len().min(usize::from(list))], blocks) {
+        Ok(descriptors) => Ranges::of_list(&descriptors),
+        Err(_) => Ranges::none(),
     }
 }
 

@@ -26,6 +26,7 @@ use Rattle.ct_book.specs.Works.{profile_in}
 use Rattle.ct_book.specs.Journals.{KeptWork}
 use Rattle.ct_exec.specs.Controls.{is_unrestricted, has_descriptors, tells_aborts, closing_control}
 use Rattle.ct_param.specs.ModeLists.{mode_list_of}
+use Rattle.ct_param.specs.UnmapLists.{unmap_list_of}
 use Rattle.ct_pages.specs.Selects.{selected_pages}
 use Rattle.ct_pages.specs.Senses.{whole_mode_data, mode_data}
 use Rattle.ct_param.specs.ResvLists.{resv_list_of}
@@ -41,14 +42,15 @@ use Rattle.ct_machine.specs.declared.act.Answer.{Answer}
 use Rattle.ct_machine.specs.declared.act.Opening.{Opening}
 use Rattle.ct_machine.specs.States.{Task}
 use Rattle.ct_machine.specs.Events.{after}
-use Rattle.ct_machine.specs.Acts.{turned_cause, act_of}
+use Rattle.ct_machine.specs.Acts.Entries.{turned_cause}
+use Rattle.ct_machine.specs.Acts.{act_of}
 use Rattle.ct_machine.specs.Runs.{Move, replay, journal_of}
 use Rattle.ct_machine.specs.Serial.{serial_disk}
 
 -- all that a run computes with
 unfoldable pub machine : Unit {0}
 unfolding no_nexuses row_of profile_in hits seeks plan_of need_of overlap footprint_of conflicts skips blocker_of next_ready_of
-    mode_list_of selected_pages whole_mode_data mode_data power_on_attentions first_code after_take after_raise_for
+    mode_list_of unmap_list_of selected_pages whole_mode_data mode_data power_on_attentions first_code after_take after_raise_for
     after_raise_for_all after_raise_for_others resv_list_of is_allowed after_out cleared_by is_unrestricted has_descriptors tells_aborts closing_control data_of_unit
     changed_control refusal_of refused_control execute
     plan_in need_in after turned_cause act_of replay journal_of serial_disk

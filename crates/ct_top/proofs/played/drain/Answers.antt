@@ -18,7 +18,7 @@ loop-pair-smaller g c =
     let now = c.loop-pair.pair in
     let then_ = c.act.new.self in
     drains_fewer now then_ c.act.result c.act.ensures c.in_default.not-Idle
-    (λ count fault void. c.next_does_something.ensures now.opening now.book.journal c.journal_is_a_run.ensures.run c.journal_is_a_run.ensures.closed count fault void)
+    (λ count fault void. c.next_does_something.ensures now.opening now.book.journal c.journal_is_a_run.ensures.run count fault void)
     (c.acts_write.ensures now.opening now.book.journal)
     (c.runs_fit_their_room.ensures then_.opening then_.book.journal c.journal_is_a_run-in-loop-pair.ensures.run)
 

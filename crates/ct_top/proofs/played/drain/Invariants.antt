@@ -1,5 +1,5 @@
 use Rattle.std.proofs.Common.{◌≡◌, ◌-◌, length}
-use Rattle.ct_machine.specs.Laws.{reserved_events}
+use Rattle.ct_book.specs.Kept.{events_for}
 use Rattle.ct_top.specs.Played.{Point, point_of, Drains}
 use Rattle.ct_top.proofs.played.drain.Given as goal
 
@@ -12,4 +12,4 @@ invariant-loop-pair g l = record {
 
 -- the events for which there is room
 abbrev pub decreases-loop-pair : goal.decreases-loop-pair
-decreases-loop-pair g l = reserved_events l.pair.opening - length l.pair.book.journal
+decreases-loop-pair g l = events_for l.pair.opening.room - length l.pair.book.journal

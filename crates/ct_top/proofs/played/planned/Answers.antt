@@ -1,6 +1,6 @@
 use Rattle.std.proofs.Common.{Bool, ◌∙◌, sym, ap, cond}
 use Rattle.ct_cdb.specs.Profiles.{operations}
-use Rattle.ct_top.proofs.Ranges.{length-plan_of}
+use Rattle.ct_top.proofs.Bounds.{length-plan_of}
 use Rattle.ct_top.proofs.played.planned.Goals as goal
 
 pub returns-then-is_performed : goal.returns-then-is_performed

@@ -1,5 +1,5 @@
 use Rattle.std.proofs.Common.{◌≡◌, drop}
-use Rattle.ct_top.specs.Commands.{declared_blocks}
+use Rattle.ct_script.specs.Rules.{declared_blocks}
 use Rattle.ct_top.proofs.served.declared_blocks.Given as goal
 
 -- the lines before declare none

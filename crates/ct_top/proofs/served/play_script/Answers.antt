@@ -1,7 +1,7 @@
 use Rattle.std.proofs.Common.{◌≡◌, ◌≤◌, ℕ, Option, Some, sym, ap, ◌∙◌, subst}
 use Rattle.std.specs.Prelude.{IfSome}
 use Rattle.ct_word.specs.declared.limit.TheConstants.{MOST_BLOCKS}
-use Rattle.ct_top.specs.Commands.{declared_blocks}
+use Rattle.ct_script.specs.Rules.{declared_blocks}
 use Rattle.ct_top.proofs.Ranges.{blocks_in_range}
 use Rattle.ct_top.proofs.served.play_script.Goals as goal
 

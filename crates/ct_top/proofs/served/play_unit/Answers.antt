@@ -15,8 +15,8 @@ returns c =
     let opening = opening_of c.args.blocks script in
     let size : length c.in_ok-open.field-0 ≡ c.args.blocks = ap length c.in_ok-open.ensures ∙ length-replicate c.args.blocks (replicate 512 0) in
     let run : IsRun opening journal = subst (λ n. IsRun (opening_of n script) journal) size c.in_ok-lun.ensures.run in
-    let played : IsPlayed opening script (record { journal = journal; faults = 0 }) =
-    subst (λ n. IsPlayed (opening_of n script) script (record { journal = journal; faults = 0 })) size c.in_ok-lun.ensures.played in
+    let played : IsPlayed opening script 0 (record { journal = journal; faults = 0 }) =
+    subst (λ n. IsPlayed (opening_of n script) script 0 (record { journal = journal; faults = 0 })) size c.in_ok-lun.ensures.played in
     let rest = at_rest opening played.last (record { journal = journal; faults = 0 }) played.drained (c.runs_never_stop.ensures opening journal run) in
     let disk : end.medium ≡ (replay opening journal).blocks = subst (λ n. end.medium ≡ (replay (opening_of n script) journal).blocks) size c.in_ok-lun.ensures.disk in
     record {

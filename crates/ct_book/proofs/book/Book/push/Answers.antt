@@ -9,7 +9,7 @@ use Rattle.ct_book.proofs.book.Book.push.Goals as goal
 pub invariant_of-self : goal.invariant_of-self
 invariant_of-self c =
     let i = c.self.inside in
-    let may : CanBePushed (the_view i) c.args.event = rw (c.self.view_is) c.requires.settled in
+    let may : CanBePushed (the_view i) c.args.event = rw (← c.self.view_is) at c.requires.settled in
     let inv = c.self.invariant in
     let room : 0 < i.events.room = rw (← c.self.view_is) at c.requires.room in
     let has = journal-push (the_view i) i.events.items c.args.event may (record { in_order = inv.in_order; come = inv.come; settled = inv.settled }) in
@@ -30,5 +30,5 @@ invariant_of-self c =
 pub returns : goal.returns
 returns c =
     let i = c.self.inside in
-    let may : CanBePushed (the_view i) c.args.event = rw (c.self.view_is) c.requires.settled in
+    let may : CanBePushed (the_view i) c.args.event = rw (← c.self.view_is) at c.requires.settled in
     rw (← c.self.view_is, c.write.ensures, map-append, told (the_view i) c.args.event may)

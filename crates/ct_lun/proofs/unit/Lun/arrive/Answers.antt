@@ -1,4 +1,4 @@
-use Rattle.std.proofs.Common.{◌≡◌, ◌≤◌, ℕ, false, Some, None, IsNone, length, refl, sym, ap, ◌∙◌, subst, arith}
+use Rattle.std.proofs.Common.{◌≡◌, ◌≤◌, ◌+◌, ℕ, false, Some, None, IsNone, length, refl, sym, ap, ◌∙◌, subst, arith}
 use Rattle.ct_word.specs.declared.names.Node.TheVariants.{A}
 use Rattle.ct_book.specs.declared.work.Work.TheVariants as work
 use Rattle.ct_book.specs.Journals.{BookState, numbered, with_work}
@@ -7,7 +7,7 @@ use Rattle.ct_machine.specs.States.{held_by}
 use Rattle.ct_machine.specs.declared.act.Answer.TheVariants as answer
 use Rattle.ct_lun.specs.Desk.{slot_of}
 use Rattle.ct_lun.specs.States.{command_in}
-use Rattle.ct_lun.proofs.Arrivals.{made_of, came_so, came_agrees, room_parts, next_absent, added_reply, arrive_does}
+use Rattle.ct_lun.proofs.Arrivals.{made_of, came_so, came_agrees, room_parts, next_absent, added_reply, arrive_does, refused_does}
 use Rattle.ct_lun.proofs.unit.Lun.arrive.Goals as goal
 
 pub enter-requires-clause-agrees : goal.enter-requires-clause-agrees
@@ -120,3 +120,14 @@ returns-in-Turned g c =
     c.length.result c.in-Ok.no c.enter.result (answer.Turned c.in-Ok.no) c.requires.agrees came spare
     c.enter.ensures.wrote c.enter.ensures.agrees c.enter.ensures.faults c.enter.ensures.answer (λ e. cc (c.in-Turned.is))
     (λ e. refl)
+
+pub returns-in-Err : goal.returns-in-Err
+returns-in-Err g c =
+    let blocks : ℕ = length c.args.self.now.blocks in
+    let counted : c.length.result ≡ length (plan_in blocks c.args.cmd) =
+    c.length.ensures
+    ∙ ap length (made_of plan_in blocks c.command.result.now c.args.cmd c.blocks-2.result _
+    c.prepare-prepared.ensures.operations c.blocks-2.ensures c.command.ensures) in
+    refused_does c.args.self.now c.args.book.now c.add.new.self c.args.cmd c.length.result
+    (length c.args.book.now.works + 1) c.add.result c.in-Err.work c.requires.agrees counted c.add.ensures.answer
+    c.add.ensures.after c.in-Err.is

@@ -1,6 +1,6 @@
 use Rattle.std.proofs.Common.{◌≡◌, ℕ, true, slice_set, sym, ap, ◌∙◌, subst, arith, length}
 use Rattle.ct_book.specs.Journals.{BookState}
-use Rattle.ct_machine.specs.Acts.{numbers_of}
+use Rattle.ct_machine.specs.Acts.Functions.{numbers_of}
 use Rattle.ct_lun.specs.declared.slot.Slot.{Slot}
 use Rattle.ct_lun.specs.Desk.{Desk, slot_at}
 use Rattle.ct_lun.specs.States.{state_of}

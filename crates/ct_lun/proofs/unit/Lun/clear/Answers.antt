@@ -1,7 +1,7 @@
 use Rattle.std.proofs.Common.{◌≡◌, ◌<◌, ◌≤◌, ℕ, ◌+◌, true, false, length, sym, subst, arith}
 use Rattle.std.proofs.lemmas.List.Edits.{length-remove}
 use Rattle.ct_book.specs.Journals.{BookState}
-use Rattle.ct_machine.specs.Events.{is_cleared}
+use Rattle.ct_machine.specs.Events.Ends.{is_cleared}
 use Rattle.ct_lun.specs.Desk.{Desk, slot_at}
 use Rattle.ct_lun.specs.States.{task_in}
 use Rattle.ct_lun.specs.Calls.{Clears}

@@ -1,7 +1,7 @@
 use Rattle.std.proofs.Common.{◌+◌, ◌-◌, ◌≤◌, length, map, drop}
 use Rattle.ct_book.specs.Journals.{BookState}
 use Rattle.ct_book.specs.Kept.{IsCommandNo}
-use Rattle.ct_machine.specs.Acts.{numbers_of}
+use Rattle.ct_machine.specs.Acts.Functions.{numbers_of}
 use Rattle.ct_lun.specs.Desk.{Desk, number_of}
 use Rattle.ct_lun.specs.States.{state_of}
 use Rattle.ct_lun.specs.Agreement.{AgreesWith}

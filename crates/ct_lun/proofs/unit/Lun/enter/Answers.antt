@@ -9,7 +9,7 @@ use Rattle.ct_book.specs.Journals.{BookState, with_event, without_body}
 use Rattle.ct_exec.specs.Executions.{need_in}
 use Rattle.ct_exec.specs.Refusals.{refused_reply}
 use Rattle.ct_machine.specs.States.{held_by}
-use Rattle.ct_machine.specs.Acts.{turned_cause}
+use Rattle.ct_machine.specs.Acts.Entries.{turned_cause}
 use Rattle.ct_lun.specs.declared.slot.Slot.{Slot}
 use Rattle.ct_lun.specs.Desk.{Desk, placed_slot}
 use Rattle.ct_lun.specs.States.{command_in, state_of}

@@ -1,5 +1,5 @@
 use Rattle.std.proofs.Common.{◌≡◌, Some, sym, ◌∙◌}
-use Rattle.ct_machine.specs.Acts.{next_step}
+use Rattle.ct_machine.specs.Acts.Next.{next_step}
 use Rattle.ct_lun.specs.States.{state_of}
 use Rattle.ct_lun.specs.Calls.{said}
 use Rattle.ct_lun.specs.Acts.{step_of, next_of}

@@ -1,11 +1,12 @@
 use Rattle.std.proofs.Common.{◌≡◌, ◌<◌, IsNone, length, refl, arith}
-use Rattle.ct_matrix.specs.Queues.{command_of}
+use Rattle.ct_matrix.specs.Queues.{waits_yet, command_of}
 use Rattle.ct_queue.specs.Sound.{waiting_from}
-use Rattle.ct_queue.proofs.Commands.{waiting_within, insert-waiting, sound-entered, sound-inserted}
+use Rattle.ct_matrix.proofs.Places.{insert_first, first_within}
+use Rattle.ct_queue.proofs.Commands.{sound-entered, sound-inserted}
 use Rattle.ct_queue.proofs.queue.QueueWaits.enter.Goals as goal
 
 pub insert-requires-clause-within : goal.insert-requires-clause-within
-insert-requires-clause-within c = rw (c.first_waiting-at.ensures, c.as_slice.ensures) (waiting_within _)
+insert-requires-clause-within c = rw (c.first_waiting-at.ensures, c.as_slice.ensures) (first_within waits_yet _)
 
 pub invariant_of-self : goal.invariant_of-self
 invariant_of-self c =
@@ -25,4 +26,4 @@ invariant_of-self-in-Simple c =
 pub returns-in-Head : goal.returns-in-Head
 returns-in-Head c =
     let place : c.first_waiting-at.result ≡ waiting_from c.self.inside.commands.items = rw (c.first_waiting-at.ensures, c.as_slice.ensures) refl in
-    rw (c.insert.ensures, ← c.self.view_is, place, insert-waiting (record { no = c.args.no; held = c.args.held }) c.self.inside.commands.items, c.in-Head.is) refl
+    rw (c.insert.ensures, ← c.self.view_is, place, insert_first waits_yet (record { no = c.args.no; held = c.args.held }) c.self.inside.commands.items, c.in-Head.is) refl

@@ -1,4 +1,4 @@
-use Rattle.std.proofs.Common.{◌≡◌, ◌<◌, ◌≤◌, ◌∙◌, sym, ap, List, length, take, arith}
+use Rattle.std.proofs.Common.{◌∙◌, sym, ap, List, arith}
 use Rattle.ct_resv.specs.declared.registrants.Registrant.{Registrant}
 use Rattle.ct_resv.specs.Registering.{nexuses_of}
 use Rattle.ct_resv.specs.Changes.{removed_of, left_of}

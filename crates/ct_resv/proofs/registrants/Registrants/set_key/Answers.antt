@@ -1,4 +1,4 @@
-use Rattle.std.proofs.Common.{◌≡◌, ◌≤◌, ◌<◌, ◌++◌, length, map, take, drop, arith}
+use Rattle.std.proofs.Common.{◌<◌, length, arith}
 use Rattle.ct_resv.proofs.Leaving.{key_set}
 use Rattle.ct_resv.proofs.registrants.Registrants.set_key.Goals as goal
 

@@ -1,6 +1,4 @@
-use Rattle.std.proofs.Common.{◌≡◌, ◌≤◌, length, take, arith}
 use Rattle.std.proofs.lemmas.List.{take_all}
-use Rattle.ct_resv.specs.Reports.{keys_listed}
 use Rattle.ct_resv.proofs.Listing.{keys_fit}
 use Rattle.ct_resv.proofs.reservations.Reservations.keys.Goals as goal
 

@@ -1,4 +1,3 @@
-use Rattle.std.proofs.Common.{◌≡◌, ◌≤◌, length, take, arith}
 use Rattle.std.proofs.lemmas.List.{take_all}
 use Rattle.ct_resv.proofs.Listing.{statuses_fit}
 use Rattle.ct_resv.proofs.reservations.Reservations.statuses.Goals as goal

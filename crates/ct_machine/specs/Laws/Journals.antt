@@ -1,0 +1,66 @@
+-- What is read from a journal: its events, and the works behind their numbers.
+use Rattle.std.specs.Prelude.{◌≡◌, ℕ, ◌+◌, ◌-◌, List, [], ◌∷◌, ◌++◌, Bool, false, ◌&&◌, ◌||◌, ◌==◌, if◌then◌else◌, Option, Some}
+use Rattle.std.specs.List.{list_any}
+use Rattle.ct_tmf.specs.declared.function.Ask.{Ask}
+use Rattle.ct_book.specs.declared.work.Command.{Command}
+use Rattle.ct_book.specs.declared.work.Work.TheVariants as work
+use Rattle.ct_book.specs.declared.event.Event.{Event}
+use Rattle.ct_book.specs.declared.event.Event.TheVariants as event
+use Rattle.ct_book.specs.declared.event.Logged.{Logged}
+use Rattle.ct_book.specs.Facts.{facts_of}
+use Rattle.ct_book.specs.Journals.{KeptWork, numbered, works_in}
+
+-- P holds of each event of a journal and the events before it
+abbrev pub EachBehind : (List Logged → Logged → Type 0) → List Logged → List Logged → Type 0
+EachBehind P before [] = Unit {0}
+EachBehind P before (logged ∷ journal) = P before logged × EachBehind P (before ++ logged ∷ []) journal
+
+abbrev pub Each : (List Logged → Logged → Type 0) → List Logged → Type 0
+Each P journal = EachBehind P [] journal
+
+-- some event of a journal passes a test
+abbrev pub has : (Event → Bool) → List Logged → Bool
+has test journal = list_any (λ (logged : Logged). test logged.event) journal
+
+-- the event by which a work is done: its entry in the history
+abbrev pub is_entry : ℕ → Event → Bool
+is_entry wanted event = (facts_of event).is_entry && ((facts_of event).no == wanted)
+
+abbrev pub is_enter : ℕ → Event → Bool
+is_enter wanted (event.Enter number) = number == wanted
+is_enter wanted _ = false
+
+abbrev pub is_begin : ℕ → Event → Bool
+is_begin wanted (event.Begun number) = number == wanted
+is_begin wanted (event.Granted number) = number == wanted
+is_begin wanted _ = false
+
+abbrev pub is_asked : ℕ → Event → Bool
+is_asked wanted (event.Asked number) = number == wanted
+is_asked wanted _ = false
+
+-- the first event that passes one of two tests passes the first
+abbrev pub comes_first : (Event → Bool) → (Event → Bool) → List Logged → Bool
+comes_first first second [] = false
+comes_first first second (logged ∷ journal) =
+    if second logged.event then false
+    else first logged.event || comes_first first second journal
+
+-- the block operations that a command made
+abbrev pub made_at : ℕ → Event → ℕ
+made_at wanted (event.Moved number count) = if number == wanted then count else 0
+made_at wanted _ = 0
+
+abbrev pub made_by : ℕ → List Logged → ℕ
+made_by wanted [] = 0
+made_by wanted (logged ∷ journal) = made_at wanted logged.event + made_by wanted journal
+
+abbrev pub work_in : ℕ → List Logged → Option KeptWork
+work_in number journal = numbered number (works_in journal)
+
+-- the work with a number is this command, or this function
+abbrev pub IsCommandOf : List Logged → ℕ → Command → Type 0
+IsCommandOf journal number command = work_in number journal ≡ Some (work.Cmd command)
+
+abbrev pub IsFunctionOf : List Logged → ℕ → Ask → Type 0
+IsFunctionOf journal number ask = work_in number journal ≡ Some (work.Ask ask)
