@@ -166,7 +166,8 @@ MACHINES = [
         "if is_hit ask task && is_here task.stage && (done_at task.stage == 0) then says (event.Cut",
         "None", ["write 8 A 0 1 0 8 0x33", "step 3 3", ABORT, "step 3 5"],
         "RecordsPrefix", false_is_true(at(ON_ONE_NODE + 6, " _ 3 _ refl refl refl refl refl")),
-        "comes_first (is_entry 3) (is_entry 4) journal ≡ true"),
+        "comes_first (is_entry 3) (is_entry 4) journal ≡ true",
+        uses="use Rattle.std.specs.Prelude.{◌==◌}\n"),
     # a cut command stays and moves after its entry
     Machine(
         "cut-moves-on", "Events", CUT,
@@ -187,7 +188,9 @@ MACHINES = [
         "differ (ap begins_with_zero (law.blocks (record { each = "
         + "(refl, " * (ON_ONE_NODE + 8) + "tt" + ")" * (ON_ONE_NODE + 8) + "; last = refl }) refl))",
         "begins_with_zero (replay unit journal).blocks ∷ begins_with_zero (serial_disk unit journal).blocks ∷ []"
-        " ≡ false ∷ false ∷ []"),
+        " ≡ false ∷ false ∷ []",
+        uses="use Rattle.std.specs.Prelude.{map, length}\nuse Rattle.ct_plan.specs.Cells.{after_all}\n"
+        "use Rattle.ct_exec.specs.Executions.{plan_in}\n"),
     # a function awaits no granted command
     Machine(
         "closes-beside-a-grant", "Events",
@@ -239,7 +242,8 @@ MACHINES = [
         "followed (says (event.Closed task.no Complete) s) (λ ended",
         "None", ["no_read 8 A 0 1", "step 3 1"],
         "IsTyped", false_is_true_of("is_asked_for", at(4, ".1")),
-        "has (is_entry 3) journal ≡ true"),
+        "has (is_entry 3) journal ≡ true",
+        uses="use Rattle.ct_tmf.specs.declared.function.Outcome.TheVariants.{Complete}\n"),
     # an abort says that another work cut the command, which never came
     Machine(
         "cut-by-nobody", "Acts",
@@ -406,7 +410,7 @@ def main():
             else:
                 path = places[0]
                 text = read(crate, path)
-                put(crate, path, text.replace("use ", machine.uses + "use ", 1).replace(machine.was, machine.becomes))
+                put(crate, path, text.replace("\nuse ", "\n" + machine.uses + "use ", 1).replace(machine.was, machine.becomes))
                 refused, output = check(crate, {machine.title(): machine.refutation()})
                 put(crate, path, text)
                 if refused is None:
