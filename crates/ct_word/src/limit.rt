@@ -24,11 +24,17 @@ pub const MOST_REGISTRANTS: u64 = 64;
 /// The most block operations of one step.
 pub const MOST_STEP: u32 = 65_536;
 
-/// Commands that a task set holds.
+/// Commands that a task set holds, where a script doesn't say.
 pub const DEPTH: u32 = 64;
 
-/// Blocks of a pool.
-pub const POOL: u32 = 16_384;
+/// The most commands that a task set holds.
+pub const MOST_DEPTH: u32 = 256;
+
+/// Blocks of a pool, where a script doesn't say.
+pub const POOL: u32 = 1_024;
+
+/// The most blocks of a pool.
+pub const MOST_POOL: u32 = 4_096;
 
 /// The most open task management functions of a logical unit.
 pub const MOST_FUNCTIONS: usize = 64;
@@ -40,7 +46,7 @@ pub const MOST_SCRIPT: usize = 8_388_608;
 pub const MOST_LINES: u32 = 65_536;
 
 /// The most commands of a script, each a `cmd` line.
-pub const MOST_COMMANDS: u64 = 64;
+pub const MOST_COMMANDS: u64 = 16_384;
 
 /// The most bytes of a CDB in a script.
 pub const MOST_CDB: usize = 32;
