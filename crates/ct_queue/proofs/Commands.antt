@@ -36,6 +36,9 @@ pub waiting_held : (o : Option HeldCommand) → IsSomeAnd o (λ c. c.held.begun 
 waiting_held None h = absurd h
 waiting_held (Some c) h = refl
 
+pub waits_found : (o : Option HeldCommand) (c : HeldCommand) → o ≡ Some c → IsSomeAnd o (λ c. c.held.begun ≡ false) → c.held.begun ≡ false
+waits_found o c is waits = subst (λ (it : Option HeldCommand). IsSomeAnd it (λ c. c.held.begun ≡ false)) is waits
+
 pub place_item : (number : ℕ) (commands : List HeldCommand) → slice_get commands (place_of number commands) ≡ command_of number commands
 place_item number commands = sym (find_at (λ (command : HeldCommand). command.no == number) commands)
 
@@ -47,7 +50,7 @@ absent_without number (c ∷ cs) absent =
       | inr other ↦ rw other (ap (λ (rest : List HeldCommand). c ∷ rest) (absent_without number cs (rw other at absent)))
     ]
 
-absent_begun : (number : ℕ) (commands : List HeldCommand) → IsNone (command_of number commands) → with_begun number commands ≡ commands
+pub absent_begun : (number : ℕ) (commands : List HeldCommand) → IsNone (command_of number commands) → with_begun number commands ≡ commands
 absent_begun number [] absent = refl
 absent_begun number (c ∷ cs) absent =
     elim (cases_Bool (c.no == number)) [
@@ -55,14 +58,14 @@ absent_begun number (c ∷ cs) absent =
       | inr other ↦ rw other (ap (λ (rest : List HeldCommand). c ∷ rest) (absent_begun number cs (rw other at absent)))
     ]
 
-place-here : (number : ℕ) (c : HeldCommand) (cs : List HeldCommand) → (c.no == number) ≡ true → place_of number (c ∷ cs) ≡ 0
+pub place-here : (number : ℕ) (c : HeldCommand) (cs : List HeldCommand) → (c.no == number) ≡ true → place_of number (c ∷ cs) ≡ 0
 place-here number c cs here = rw here refl
 
-place-other : (number : ℕ) (c : HeldCommand) (cs : List HeldCommand) → (c.no == number) ≡ false → place_of number (c ∷ cs) ≡ suc (place_of number cs)
+pub place-other : (number : ℕ) (c : HeldCommand) (cs : List HeldCommand) → (c.no == number) ≡ false → place_of number (c ∷ cs) ≡ suc (place_of number cs)
 place-other number c cs other = rw other (omega arith)
 
 -- a number that stands once stands no more behind its place
-absent_behind : (number : ℕ) (c : HeldCommand) (cs : List HeldCommand) → IsSingle (c ∷ cs) → (c.no == number) ≡ true → IsNone (command_of number cs)
+pub absent_behind : (number : ℕ) (c : HeldCommand) (cs : List HeldCommand) → IsSingle (c ∷ cs) → (c.no == number) ≡ true → IsNone (command_of number cs)
 absent_behind number c cs single here = subst (λ (n : ℕ). IsNone (command_of n cs)) (same_number c.no number here) single.0
 
 -- the command at the place of a number is the only one that leaves
@@ -90,24 +93,24 @@ set-place number (c ∷ cs) found single at =
           rw (place-other number c cs other, other) (ap (λ (rest : List HeldCommand). c ∷ rest) (set-place number cs found single.1 later))
     ]
 
-before-begun : (new c : HeldCommand) (cs : List HeldCommand) → c.held.begun ≡ true → before_first waits_yet new (c ∷ cs) ≡ c ∷ before_first waits_yet new cs
+pub before-begun : (new c : HeldCommand) (cs : List HeldCommand) → c.held.begun ≡ true → before_first waits_yet new (c ∷ cs) ≡ c ∷ before_first waits_yet new cs
 before-begun new c cs begun = rw begun refl
 
-before-waits : (new c : HeldCommand) (cs : List HeldCommand) → c.held.begun ≡ false → before_first waits_yet new (c ∷ cs) ≡ new ∷ c ∷ cs
+pub before-waits : (new c : HeldCommand) (cs : List HeldCommand) → c.held.begun ≡ false → before_first waits_yet new (c ∷ cs) ≡ new ∷ c ∷ cs
 before-waits new c cs waits = rw waits refl
 
 -- a number is absent exactly where no command has it
 absent-cons : (number : ℕ) (c : HeldCommand) (cs : List HeldCommand) → (c.no == number) ≡ false → IsNone (command_of number cs) → IsNone (command_of number (c ∷ cs))
 absent-cons number c cs other absent = rw other absent
 
-other_than_absent : (number : ℕ) (c : HeldCommand) (cs : List HeldCommand) → IsNone (command_of number (c ∷ cs)) → ((c.no == number) ≡ false) × IsNone (command_of number cs)
+pub other_than_absent : (number : ℕ) (c : HeldCommand) (cs : List HeldCommand) → IsNone (command_of number (c ∷ cs)) → ((c.no == number) ≡ false) × IsNone (command_of number cs)
 other_than_absent number c cs absent =
     elim (cases_Bool (c.no == number)) [
       | inl here ↦ absurd (false≢true (sym (rw here at absent)))
       | inr other ↦ (other, rw other at absent)
     ]
 
-turned : (a b : ℕ) → (a == b) ≡ false → (b == a) ≡ false
+pub turned : (a b : ℕ) → (a == b) ≡ false → (b == a) ≡ false
 turned a b h = grind (arith, nat_tests)
 
 absent-push : (number : ℕ) (commands : List HeldCommand) (new : HeldCommand) → IsNone (command_of number commands) → (new.no == number) ≡ false → IsNone (command_of number (commands ++ new ∷ []))

@@ -5,6 +5,7 @@ ghost use Rattle.std.specs.Prelude.{◌≡◌, false, length};
 
 mod queue;
 mod search;
+mod standing;
 
 pub use queue::Queue;
 

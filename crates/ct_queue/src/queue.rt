@@ -1,7 +1,8 @@
 ghost use Rattle.std.specs.Prelude.{◌≡◌, ◌≤◌, [], IfOk, IsSome, false};
 ghost use Rattle.ct_matrix.specs.Queues.{command_of, without};
 
-use crate::search::{begun, blocker, find, first_waiting, number_at, place, ready};
+use crate::search::{begun, find, first_waiting, number_at, place, ready};
+use crate::standing::{Change, Standing, refresh, standing_of};
 use ct_matrix::{Attr, Held, HeldCommand, Steps, Waits};
 use ct_word::{CmdNo, NoMemory, Reserve};
 use std::alloc::Global;
@@ -12,6 +13,8 @@ use std::sync::ledger::Ledger;
 #[derive(Debug, Drop)]
 pub struct Queue {
     commands: Reserve<HeldCommand>,
+    // Of each command, in the same order.
+    standings: Reserve<Standing>,
     depth: u32,
     unrestricted: bool,
 }
@@ -19,12 +22,13 @@ pub struct Queue {
 impl Model for Queue {
     ghost use Rattle.ct_matrix.specs.Queues.{TaskSet};
     ghost use Rattle.ct_queue.specs.Sound.{IsSound};
+    ghost use Rattle.ct_queue.specs.Standings.{AreKept};
 
     ghost Value = { TaskSet };
 
     ghost view = { λ q. record { commands = q.commands.items; depth = q.depth; unrestricted = q.unrestricted } };
 
-    ghost invariant = { λ q. IsSound q.commands q.depth };
+    ghost invariant = { λ q. IsSound q.commands q.depth × AreKept q.unrestricted q.commands q.standings };
 }
 
 impl Queue {
@@ -36,6 +40,7 @@ impl Queue {
     {
         Ok(Queue {
             commands: Reserve::open(alloc, depth as usize)?,
+            standings: Reserve::open(alloc, depth as usize)?,
             depth,
             unrestricted: false,
         })
@@ -48,59 +53,81 @@ impl Waits for Queue {
     fn enter(&mut self, no: CmdNo, held: Held) {
         match held.attr {
             Attr::Head => {
-                let at = first_waiting(self.commands.as_slice());
+                let at = first_waiting(self.standings.as_slice());
                 self.commands.insert(at, HeldCommand { no, held });
+                let commands = self.commands.as_slice();
+                let entered = &commands[at];
+                self.standings
+                    .insert(at, standing_of(commands, entered, self.unrestricted));
+                let change = Change::Entered(&entered.held);
+                refresh(&mut self.standings, commands, &change, self.unrestricted);
             }
-            Attr::Simple | Attr::Ordered => self.commands.push(HeldCommand { no, held }),
+            Attr::Simple | Attr::Ordered => {
+                let at = self.commands.len();
+                self.commands.push(HeldCommand { no, held });
+                let commands = self.commands.as_slice();
+                self.standings
+                    .push(standing_of(commands, &commands[at], self.unrestricted));
+            }
         }
     }
 
     fn begin(&mut self, no: CmdNo) {
-        let at = place(self.commands.as_slice(), no);
+        let at = place(self.standings.as_slice(), no);
         self.commands.item_mut(at).held.begun = true;
+        let commands = self.commands.as_slice();
+        let begun = &commands[at];
+        self.standings
+            .set(at, standing_of(commands, begun, self.unrestricted));
+        let change = Change::Begun(&begun.held);
+        refresh(&mut self.standings, commands, &change, self.unrestricted);
     }
 
     fn set_order(&mut self, free_order: bool) {
+        if self.unrestricted == free_order {
+            return;
+        }
         self.unrestricted = free_order;
+        let commands = self.commands.as_slice();
+        refresh(&mut self.standings, commands, &Change::Order, free_order);
     }
 
     fn blocker(&self, no: CmdNo) -> Option<CmdNo> {
-        let commands = self.commands.as_slice();
-        blocker(commands, &commands[place(commands, no)], self.unrestricted)
+        find(self.standings.as_slice(), no)?.blocker
     }
 
     fn next_ready(&self) -> Option<CmdNo> {
-        ready(self.commands.as_slice(), self.unrestricted)
+        ready(self.standings.as_slice())
     }
 
     fn first_begun(&self) -> Option<CmdNo> {
-        begun(self.commands.as_slice())
+        begun(self.standings.as_slice())
     }
 
     fn first(&self) -> Option<CmdNo> {
-        number_at(self.commands.as_slice(), 0)
+        number_at(self.standings.as_slice(), 0)
     }
 
     fn after(&self, no: CmdNo) -> Option<CmdNo> {
-        let commands = self.commands.as_slice();
-        number_at(commands, place(commands, no) + 1)
+        let standings = self.standings.as_slice();
+        number_at(standings, place(standings, no) + 1)
     }
 
     fn len(&self) -> u32 {
-        self.commands.len() as u32
+        self.standings.len() as u32
     }
 
     fn is_full(&self) -> bool {
-        self.commands.room() == 0
+        self.standings.room() == 0
     }
 
     fn holds(&self, no: CmdNo) -> bool {
-        find(self.commands.as_slice(), no).is_some()
+        find(self.standings.as_slice(), no).is_some()
     }
 
     fn waits(&self, no: CmdNo) -> bool {
-        match find(self.commands.as_slice(), no) {
-            Some(command) => !command.held.begun,
+        match find(self.standings.as_slice(), no) {
+            Some(standing) => !standing.begun,
             None => false,
         }
     }
@@ -110,7 +137,15 @@ impl Waits for Queue {
         ensures left { self.new ≡ record self.old { commands = without no self.old.commands } }
         ensures counted { steps.new ≡ steps.old }
     {
-        let at = place(self.commands.as_slice(), no);
+        let at = place(self.standings.as_slice(), no);
         let _left = self.commands.remove(at);
+        let _kept = self.standings.remove(at);
+        let commands = self.commands.as_slice();
+        refresh(
+            &mut self.standings,
+            commands,
+            &Change::Left(no),
+            self.unrestricted,
+        );
     }
 }

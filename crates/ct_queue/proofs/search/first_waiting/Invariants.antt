@@ -1,6 +1,7 @@
 use Rattle.std.proofs.Common.{◌≡◌, ◌+◌, drop}
-use Rattle.ct_queue.specs.Sound.{waiting_from}
+use Rattle.std.specs.List.{position_or_len}
+use Rattle.ct_queue.specs.Standings.{waits_in}
 use Rattle.ct_queue.proofs.search.first_waiting.Given as goal
 
 abbrev pub invariant-loop-at : goal.invariant-loop-at
-invariant-loop-at l = l.at + waiting_from (drop l.at l.commands) ≡ waiting_from l.commands
+invariant-loop-at l = l.at + position_or_len waits_in (drop l.at l.standings) ≡ position_or_len waits_in l.standings

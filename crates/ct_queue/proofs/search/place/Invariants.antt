@@ -1,6 +1,7 @@
 use Rattle.std.proofs.Common.{◌≡◌, ◌+◌, drop}
-use Rattle.ct_queue.specs.Sound.{place_of}
+use Rattle.std.specs.List.{position_or_len}
+use Rattle.ct_queue.specs.Standings.{has_number}
 use Rattle.ct_queue.proofs.search.place.Given as goal
 
 abbrev pub invariant-loop-at : goal.invariant-loop-at
-invariant-loop-at l = l.at + place_of l.no (drop l.at l.commands) ≡ place_of l.no l.commands
+invariant-loop-at l = l.at + position_or_len (has_number l.no) (drop l.at l.standings) ≡ position_or_len (has_number l.no) l.standings

@@ -1,22 +1,22 @@
-use Rattle.std.proofs.Common.{◌≡◌, ◌<◌, Some, length, refl, arith}
-use Rattle.ct_matrix.specs.Queues.{blocker_of, command_of}
-use Rattle.ct_queue.specs.Sound.{place_of}
-use Rattle.ct_queue.proofs.Commands.{item_read, place_within, waiting_held}
+use Rattle.std.proofs.Common.{◌≡◌, None, option_map, sym, ap, ◌∙◌}
+use Rattle.std.specs.List.{find}
+use Rattle.ct_matrix.specs.Queues.{command_of}
+use Rattle.ct_queue.specs.Standings.{has_number, standing_in}
+use Rattle.ct_queue.proofs.Known.{held_kept, blocker_alike, absent_alike, absent_waits}
 use Rattle.ct_queue.proofs.queue.QueueWaits.blocker.Goals as goal
 
-pub offset_bounds-commands-place : goal.offset_bounds-commands-place
-offset_bounds-commands-place c =
-    let within : c.place.result < length c.self.inside.commands.items = rw (c.place.ensures, c.as_slice-commands.ensures) (place_within _ _ (waiting_held _ (rw (← c.self.view_is) at c.requires))) in
-    omega (arith, within, c.self.invariant.room, c.self.invariant.few)
-
-pub bounds-commands-place : goal.bounds-commands-place
-bounds-commands-place c = rw (c.place.ensures, c.as_slice-commands.ensures) (place_within _ _ (waiting_held _ (rw (← c.self.view_is) at c.requires)))
-
 pub returns : goal.returns
-unfolding blocker_of
 returns c =
-    let place : c.place.result ≡ place_of c.args.no c.self.inside.commands.items = rw (c.place.ensures, c.as_slice-commands.ensures) refl in
-    let within : c.place.result < length c.self.inside.commands.items = rw place (place_within _ _ (waiting_held _ (rw (← c.self.view_is) at c.requires))) in
-    let found : command_of c.args.no c.self.inside.commands.items ≡ Some c.index-commands-place.result =
-    item_read _ _ _ _ place within (rw c.as_slice-commands.ensures at c.index-commands-place.is) in
-    rw (← c.self.view_is, found) (rw c.as_slice-commands.ensures at c.blocker.ensures)
+    let look : find (has_number c.args.no) c.as_slice.result.now ≡ option_map (standing_in c.self.inside.unrestricted c.self.inside.commands.items) (command_of c.args.no c.self.inside.commands.items) =
+    ap (find (has_number c.args.no)) (c.as_slice.ensures ∙ c.self.invariant.1.items) ∙ held_kept c.self.inside.unrestricted c.args.no c.self.inside.commands.items c.self.inside.commands.items in
+    rw (← c.self.view_is)
+    (blocker_alike (record { commands = c.self.inside.commands.items; depth = c.self.inside.depth; unrestricted = c.self.inside.unrestricted }) (command_of c.args.no c.self.inside.commands.items) c.in_ok-find.field-0
+    (sym look ∙ sym c.in_ok-find.ensures) (rw (← c.self.view_is) at c.requires))
+
+pub returns-in_err-find : goal.returns-in_err-find
+returns-in_err-find c =
+    let look : find (has_number c.args.no) c.as_slice.result.now ≡ option_map (standing_in c.self.inside.unrestricted c.self.inside.commands.items) (command_of c.args.no c.self.inside.commands.items) =
+    ap (find (has_number c.args.no)) (c.as_slice.ensures ∙ c.self.invariant.1.items) ∙ held_kept c.self.inside.unrestricted c.args.no c.self.inside.commands.items c.self.inside.commands.items in
+    let absent : command_of c.args.no c.self.inside.commands.items ≡ None =
+    absent_alike c.self.inside.unrestricted c.self.inside.commands.items (command_of c.args.no c.self.inside.commands.items) (sym look ∙ sym c.find.ensures ∙ c.in_err-find.was) in
+    absurd (absent_waits (command_of c.args.no c.self.inside.commands.items) absent (rw (← c.self.view_is) at c.requires))

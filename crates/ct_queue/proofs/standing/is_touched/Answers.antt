@@ -1,0 +1,17 @@
+use Rattle.ct_queue.proofs.Known.{touched_waits}
+use Rattle.ct_queue.proofs.standing.is_touched.Goals as goal
+
+pub returns-in-Order : goal.returns-in-Order
+returns-in-Order c = rw (c.in-Order.is) (touched_waits _ _ c.if-command.false)
+
+pub returns-in-Entered : goal.returns-in-Entered
+returns-in-Entered c = rw (c.in-Entered.is, c.waits_for.ensures) (touched_waits _ _ c.if-command.false)
+
+pub returns-in-Begun : goal.returns-in-Begun
+returns-in-Begun c = rw (c.in-Begun.is, c.waits_for-in-Begun.ensures) (touched_waits _ _ c.if-command.false)
+
+pub returns-in-Some : goal.returns-in-Some
+returns-in-Some c = rw (c.in-Left.is, c.in-Some.is, c.eq.ensures) (touched_waits _ _ c.if-command.false)
+
+pub returns-in-None : goal.returns-in-None
+returns-in-None c = rw (c.in-Left.is, c.in-None.is) (touched_waits _ _ c.if-command.false)
