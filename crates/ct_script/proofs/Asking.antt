@@ -46,7 +46,7 @@ declared_more (first ∷ lines) line = go (word_blocks first.word) (declared_mor
     go (Some blocks) same = refl
 
 acting_declares : (word : Word) → word_acts word ≡ true → word_blocks word ≡ None
-acting_declares (Lun lun blocks) e = absurd (cc)
+acting_declares (Lun lun blocks sizes) e = absurd (cc)
 acting_declares (Port port node) e = refl
 acting_declares (Map n x lun) e = refl
 acting_declares (Cmd n x tag attr cdb out) e = refl
@@ -61,7 +61,7 @@ or_none (Some blocks) = refl
 -- what sets up asks for nothing
 
 quiet_asks : (blocks : ℕ) (word : Word) → word_acts word ≡ false → word_line_asked blocks word ≡ 0
-quiet_asks blocks (Lun lun n) e = refl
+quiet_asks blocks (Lun lun n sizes) e = refl
 quiet_asks blocks (Port port node) e = refl
 quiet_asks blocks (Map n x lun) e = refl
 quiet_asks blocks (Cmd n x tag attr cdb out) e = absurd (cc)

@@ -20,7 +20,7 @@ abbrev answered : Bool → Bool → Line → Result Line What
 answered misnamed over line = if misnamed then Err Name else if over then Err Limit else Ok line
 
 judged_kept : (earlier : List Line) (number : ℕ) (word : Word) → judged earlier number (kept word) ≡ judged earlier number word
-judged_kept earlier number (Lun lun blocks) = refl
+judged_kept earlier number (Lun lun blocks sizes) = refl
 judged_kept earlier number (Port port node) = refl
 judged_kept earlier number (Map n x lun) = refl
 judged_kept earlier number (Cmd n x tag attr cdb out) = by_length (nat_lt MOST_DATA_OUT (length out)) refl

@@ -55,7 +55,7 @@ lun_set : (lun : _) (line : Line) → acts line ≡ true → declares_lun lun li
 lun_set lun line = go line.word
   where
     go : (word : Word) → word_acts word ≡ true → word_declares_lun lun word ≡ false
-    go (Lun l blocks) e = absurd (cc)
+    go (Lun l blocks sizes) e = absurd (cc)
     go (Port port node) e = refl
     go (Map n x l) e = refl
     go (Cmd n x tag attr cdb out) e = refl
@@ -67,7 +67,7 @@ port_set : (port : ℕ) (line : Line) → acts line ≡ true → declares_port p
 port_set port line = go line.word
   where
     go : (word : Word) → word_acts word ≡ true → word_declares_port port word ≡ false
-    go (Lun l blocks) e = refl
+    go (Lun l blocks sizes) e = refl
     go (Port p node) e = absurd (cc)
     go (Map n x l) e = refl
     go (Cmd n x tag attr cdb out) e = refl
@@ -79,7 +79,7 @@ map_set : (nexus : _) (x : ℕ) (line : Line) → acts line ≡ true → maps ne
 map_set nexus x line = go line.word
   where
     go : (word : Word) → word_acts word ≡ true → word_maps nexus x word ≡ false
-    go (Lun l blocks) e = refl
+    go (Lun l blocks sizes) e = refl
     go (Port port node) e = refl
     go (Map n y l) e = absurd (cc)
     go (Cmd n y tag attr cdb out) e = refl
@@ -105,7 +105,7 @@ named_first lines settings word h = go word
     mapped nexus x = looks_first (maps nexus x) (map_set nexus x) settings lines h.acting
 
     go : (word : Word) → is_misnamed_by (nat_lt settings (length lines)) (take settings lines) word ≡ is_misnamed lines word
-    go (Lun lun blocks) = ap (λ t. t || list_any (declares_lun lun) (take settings lines)) a ∙ ap (λ t. list_any acts lines || t) (luns lun)
+    go (Lun lun blocks sizes) = ap (λ t. t || list_any (declares_lun lun) (take settings lines)) a ∙ ap (λ t. list_any acts lines || t) (luns lun)
     go (Port port node) = ap (λ t. t || list_any (declares_port port) (take settings lines)) a ∙ ap (λ t. list_any acts lines || t) (ports port)
     go (Map n x lun) =
         ap (λ t. t || not (list_any (declares_port n.port) (take settings lines)) || not (list_any (declares_lun lun) (take settings lines)) || list_any (maps n x) (take settings lines)) a
@@ -136,7 +136,7 @@ or_left_false true b h = absurd (cc)
 or_left_false false b h = refl
 
 pub none_acted : (lines : List Line) (word : Word) → is_misnamed lines word ≡ false → word_acts word ≡ false → list_any acts lines ≡ false
-none_acted lines (Lun lun blocks) h e = or_left_false (list_any acts lines) _ h
+none_acted lines (Lun lun blocks sizes) h e = or_left_false (list_any acts lines) _ h
 none_acted lines (Port port node) h e = or_left_false (list_any acts lines) _ h
 none_acted lines (Map n x lun) h e =
     or_left_false (list_any acts lines) _ (or_left_false (list_any acts lines || not (list_any (declares_port n.port) lines)) _ (or_left_false (list_any acts lines || not (list_any (declares_port n.port) lines) || not (list_any (declares_lun lun) lines)) _ h))

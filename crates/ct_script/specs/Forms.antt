@@ -1,18 +1,37 @@
 -- The forms of a script's lines: what the words of a line say.
 use Rattle.std.specs.Prelude.{ℕ, ◌-◌, ◌^◌, List, [], ◌∷◌, ◌&&◌, bytes_eq, codes, if◌then◌else◌, Option, Some, None, option_map}
-use Rattle.ct_word.specs.declared.limit.TheConstants.{MOST_BLOCKS, MOST_STEP, MOST_CDB}
+use Rattle.ct_word.specs.declared.limit.TheConstants.{MOST_BLOCKS, MOST_DEPTH, MOST_POOL, DEPTH, POOL, MOST_STEP, MOST_CDB}
 use Rattle.ct_word.specs.declared.names.Node.TheVariants.{A}
-use Rattle.ct_cdb.specs.declared.op.Attr2.TheVariants.{Simple}
+use Rattle.ct_cdb.specs.declared.op.Attr2.{Attr2}
+use Rattle.ct_cdb.specs.declared.op.Attr2.TheVariants.{Simple, Ordered, Head}
+use Rattle.ct_script.specs.declared.script.Sizes.{Sizes}
 use Rattle.ct_script.specs.declared.script.Word.{Word}
 use Rattle.ct_script.specs.declared.script.Word.TheVariants.{Lun, Port, Map, Cmd, Step, Drain, Sync}
 use Rattle.ct_script.specs.ByteText.{bytes_of_text, at_most}
 use Rattle.ct_script.specs.Words.{number_in}
 
--- `lun 0 blocks N`
+-- `depth D pool P`: how many commands the task set holds, and blocks the pool; both may be missing
+abbrev pub sizes_by : Option ℕ → Option ℕ → Option Sizes
+sizes_by (Some depth) (Some pool) = Some (record { depth = depth; pool = pool })
+sizes_by _ _ = None
+
+abbrev pub sizes_of : List (List ℕ) → Option Sizes
+sizes_of [] = Some (record { depth = DEPTH; pool = POOL })
+sizes_of (depth ∷ commands ∷ pool ∷ blocks ∷ []) =
+    if bytes_eq depth (codes "depth") && bytes_eq pool (codes "pool")
+    then sizes_by (number_in 1 MOST_DEPTH commands) (number_in 1 MOST_POOL blocks)
+    else None
+sizes_of _ = None
+
+-- `lun 0 blocks N` and `lun 0 blocks N depth D pool P`
+abbrev pub lun_by : Option ℕ → Option Sizes → Option Word
+lun_by (Some blocks) (Some sizes) = Some (Lun (record { 0 = 0 }) blocks sizes)
+lun_by _ _ = None
+
 abbrev pub lun_of : List (List ℕ) → Option Word
-lun_of (lun ∷ blocks ∷ count ∷ []) =
+lun_of (lun ∷ blocks ∷ count ∷ sizes) =
     if bytes_eq lun (codes "0") && bytes_eq blocks (codes "blocks")
-    then option_map (λ n. Lun (record { 0 = 0 }) n) (number_in 1 MOST_BLOCKS count)
+    then lun_by (number_in 1 MOST_BLOCKS count) (sizes_of sizes)
     else None
 lun_of _ = None
 
@@ -29,9 +48,18 @@ map_of (init ∷ port ∷ number ∷ lun ∷ []) =
     else None
 map_of _ = None
 
-abbrev pub command_of : Option ℕ → Option ℕ → Option (List ℕ) → Option (List ℕ) → Option Word
-command_of (Some init) (Some tag) (Some cdb) (Some out) = Some (Cmd (record { port = 0; init = init }) 0 (record { 0 = tag }) Simple cdb out)
-command_of _ _ _ _ = None
+-- a task attribute (SAM-5, clause 8)
+abbrev pub attribute_of : List ℕ → Option Attr2
+attribute_of text =
+    if bytes_eq text (codes "simple") then Some Simple
+    else if bytes_eq text (codes "ordered") then Some Ordered
+    else if bytes_eq text (codes "head") then Some Head
+    else None
+
+abbrev pub command_of : Option ℕ → Option ℕ → Option Attr2 → Option (List ℕ) → Option (List ℕ) → Option Word
+command_of (Some init) (Some tag) (Some attribute) (Some cdb) (Some out) =
+    Some (Cmd (record { port = 0; init = init }) 0 (record { 0 = tag }) attribute cdb out)
+command_of _ _ _ _ _ = None
 
 -- a CDB has no more bytes than the most
 abbrev pub cdb_bytes_of : List ℕ → Option (List ℕ)
@@ -43,11 +71,11 @@ data_of [] = Some []
 data_of (text ∷ []) = bytes_of_text text
 data_of _ = None
 
--- `cmd I 0 0 TAG simple CDB` and `cmd I 0 0 TAG simple CDB DATA`
+-- `cmd I 0 0 TAG ATTRIBUTE CDB` and `cmd I 0 0 TAG ATTRIBUTE CDB DATA`
 abbrev pub cmd_of : List (List ℕ) → Option Word
 cmd_of (init ∷ port ∷ number ∷ tag ∷ attribute ∷ cdb ∷ out) =
-    if bytes_eq port (codes "0") && bytes_eq number (codes "0") && bytes_eq attribute (codes "simple")
-    then command_of (number_in 0 15 init) (number_in 0 (2 ^ 32 - 1) tag) (cdb_bytes_of cdb) (data_of out)
+    if bytes_eq port (codes "0") && bytes_eq number (codes "0")
+    then command_of (number_in 0 15 init) (number_in 0 (2 ^ 32 - 1) tag) (attribute_of attribute) (cdb_bytes_of cdb) (data_of out)
     else None
 cmd_of _ = None
 

@@ -22,7 +22,7 @@ rest_size (Some text) = length text.now + 1
 
 -- of DATA a reader keeps one byte more than a line may have at the most, by which it is known to be too long
 abbrev pub kept : Word → Word
-kept (Lun lun blocks) = Lun lun blocks
+kept (Lun lun blocks sizes) = Lun lun blocks sizes
 kept (Port port node) = Port port node
 kept (Map n x lun) = Map n x lun
 kept (Cmd n x tag attr cdb out) = Cmd n x tag attr cdb (take (MOST_DATA_OUT + 1) out)

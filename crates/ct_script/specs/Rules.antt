@@ -2,7 +2,7 @@
 use Rattle.std.specs.Prelude.{◌≡◌, ◌≤◌, ℕ, take, drop, List, [], ◌∷◌, ◌++◌, ◌==◌, nat_lt, Bool, true, false, ◌&&◌, ◌||◌, not, length, sum_by, count_by, Option, None, Some, Result, Ok, Err}
 use Rattle.std.specs.List.{list_any, list_all, All}
 use Rattle.std.specs.Option.{option_or, unwrap_or}
-use Rattle.ct_word.specs.declared.limit.TheConstants.{MOST_BLOCKS, MOST_LINES, MOST_COMMANDS}
+use Rattle.ct_word.specs.declared.limit.TheConstants.{MOST_BLOCKS, MOST_DEPTH, MOST_POOL, MOST_LINES, MOST_COMMANDS}
 use Rattle.ct_word.specs.declared.limit.TheConstants.{MOST_DATA_OUT, MOST_DATA_OUT_TOGETHER, MOST_OPERATIONS}
 use Rattle.ct_word.specs.Nexuses.{IsNexus, is_same_nexus}
 use Rattle.ct_word.specs.declared.names.LunNo.{LunNo}
@@ -12,11 +12,12 @@ use Rattle.ct_cdb.specs.declared.op.CdbFault.{CdbFault}
 use Rattle.ct_cdb.specs.Forms.{cdb_of}
 use Rattle.ct_cdb.specs.Profiles.{asked_of}
 use Rattle.ct_script.specs.declared.script.Line.{Line}
+use Rattle.ct_script.specs.declared.script.Sizes.{Sizes}
 use Rattle.ct_script.specs.declared.script.Word.{Word}
 use Rattle.ct_script.specs.declared.script.Word.TheVariants.{Lun, Port, Map, Cmd, Step, Drain, Sync}
 
 abbrev pub word_declares_lun : LunNo → Word → Bool
-word_declares_lun lun (Lun number blocks) = number.0 == lun.0
+word_declares_lun lun (Lun number blocks sizes) = number.0 == lun.0
 word_declares_lun lun _ = false
 
 abbrev pub declares_lun : LunNo → Line → Bool
@@ -45,7 +46,7 @@ is_command line = word_is_command line.word
 
 -- a line that does something, and sets nothing up
 abbrev pub word_acts : Word → Bool
-word_acts (Lun lun blocks) = false
+word_acts (Lun lun blocks sizes) = false
 word_acts (Port port node) = false
 word_acts (Map n x lun) = false
 word_acts (Cmd n x tag attr cdb out) = true
@@ -58,7 +59,7 @@ acts line = word_acts line.word
 
 -- a name is declared twice, behind a line that acts, or not at all
 abbrev pub is_misnamed_by : Bool → List Line → Word → Bool
-is_misnamed_by acted earlier (Lun lun blocks) = acted || list_any (declares_lun lun) earlier
+is_misnamed_by acted earlier (Lun lun blocks sizes) = acted || list_any (declares_lun lun) earlier
 is_misnamed_by acted earlier (Port port node) = acted || list_any (declares_port port) earlier
 is_misnamed_by acted earlier (Map n x lun) =
     acted || not (list_any (declares_port n.port) earlier) || not (list_any (declares_lun lun) earlier) || list_any (maps n x) earlier
@@ -84,7 +85,7 @@ is_long word = nat_lt MOST_DATA_OUT (word_data_bytes word)
 
 -- the blocks of the unit that the lines declare, if they declare one
 abbrev pub word_blocks : Word → Option ℕ
-word_blocks (Lun lun blocks) = Some blocks
+word_blocks (Lun lun blocks sizes) = Some blocks
 word_blocks _ = None
 
 abbrev pub declared_blocks : List Line → Option ℕ
@@ -122,9 +123,16 @@ is_over lines =
 abbrev pub passes_limit : List Line → Line → Bool
 passes_limit earlier line = nat_lt MOST_LINES line.no || is_long line.word || is_over (earlier ++ line ∷ [])
 
--- numbers are in the ranges of their places: the blocks of a unit, a command's nexus, the block operations of a step
+-- a task set and a pool hold something, and no more than they may
+pub record IsSized (sizes : Sizes) : Type 0 where
+  pub some_commands : 1 ≤ sizes.depth
+  pub few_commands : sizes.depth ≤ MOST_DEPTH
+  pub some_blocks : 1 ≤ sizes.pool
+  pub few_blocks : sizes.pool ≤ MOST_POOL
+
+-- numbers are in the ranges of their places: the blocks of a unit and its sizes, a command's nexus, the block operations of a step
 abbrev pub IsInRange : Word → Type 0
-IsInRange (Lun lun blocks) = (1 ≤ blocks) × (blocks ≤ MOST_BLOCKS)
+IsInRange (Lun lun blocks sizes) = (1 ≤ blocks) × (blocks ≤ MOST_BLOCKS) × IsSized sizes
 IsInRange (Cmd n x tag attr cdb out) = IsNexus n
 IsInRange (Step lun number blocks) = 1 ≤ blocks
 IsInRange _ = Unit {0}

@@ -1,19 +1,21 @@
 //! The forms of a script's lines: what the words of a line say.
 
 ghost use Rattle.std.specs.Prelude.{◌≡◌, ◌+◌, ◌-◌, ◌^◌, IfOk, IfSome, option_map, take, bytes_eq};
-ghost use Rattle.ct_script.specs.Rules.{IsInRange};
+ghost use Rattle.ct_script.specs.Rules.{IsInRange, IsSized};
 ghost use Rattle.ct_script.specs.Reading.{kept};
 ghost use Rattle.ct_script.specs.ByteText.{bytes_of_text};
 ghost use Rattle.ct_script.specs.Words.{number_in};
-ghost use Rattle.ct_script.specs.Forms.{word_of, lun_of, port_of, map_of, step_of, drain_of, sync_of};
+ghost use Rattle.ct_script.specs.Forms.{word_of, lun_of, sizes_of, attribute_of, port_of, map_of, step_of, drain_of, sync_of};
 ghost use Rattle.ct_script.specs.Forms.{cmd_of, command_of, cdb_bytes_of, data_of};
 
 use crate::byte_text::read_bytes;
 use crate::numbers::number_in;
 use crate::parts::Parts;
-use crate::script::Word;
+use crate::script::{Sizes, Word};
 use ct_cdb::{Attr2, CdbBytes};
-use ct_word::limit::{MOST_BLOCKS, MOST_CDB, MOST_DATA_OUT, MOST_STEP};
+use ct_word::limit::{
+    DEPTH, MOST_BLOCKS, MOST_CDB, MOST_DATA_OUT, MOST_DEPTH, MOST_POOL, MOST_STEP, POOL,
+};
 use ct_word::{Bytes, LunNo, Nexus, NoMemory, Node, Tag};
 use std::alloc::Global;
 
@@ -48,20 +50,46 @@ pub fn read_word(alloc: Global, mut words: Parts<'_>) -> Result<Option<Word>, No
     }
 }
 
-// `lun 0 blocks N`
+// `lun 0 blocks N`, and `depth D pool P` behind it
 fn lun_form(mut words: Parts<'_>) -> Option<Word>
     ensures word { result ≡ option_map kept (lun_of words.entry) }
     ensures in_range { IfSome result IsInRange }
 {
     let lun = words.next()?;
-    let blocks = words.next()?;
+    let name = words.next()?;
     let count = words.next()?;
-    if !words.is_empty() || !spells(lun, "0") || !spells(blocks, "blocks") {
+    if !spells(lun, "0") || !spells(name, "blocks") {
         return None;
     }
+    let blocks = number_in(1, MOST_BLOCKS, count)?;
+    let sizes = sizes_form(words)?;
     Some(Word::Lun {
         lun: LunNo(0),
-        blocks: number_in(1, MOST_BLOCKS, count)?,
+        blocks,
+        sizes,
+    })
+}
+
+// `depth D pool P`, or nothing
+fn sizes_form(mut words: Parts<'_>) -> Option<Sizes>
+    ensures sizes { result ≡ sizes_of words.entry }
+    ensures in_range { IfSome result IsSized }
+{
+    let Some(depth) = words.next() else {
+        return Some(Sizes {
+            depth: DEPTH,
+            pool: POOL,
+        });
+    };
+    let commands = words.next()?;
+    let pool = words.next()?;
+    let blocks = words.next()?;
+    if !words.is_empty() || !spells(depth, "depth") || !spells(pool, "pool") {
+        return None;
+    }
+    Some(Sizes {
+        depth: number_in(1, MOST_DEPTH, commands)?,
+        pool: number_in(1, MOST_POOL, blocks)?,
     })
 }
 
@@ -101,7 +129,7 @@ fn map_form(mut words: Parts<'_>) -> Option<Word>
     })
 }
 
-// `cmd I 0 0 TAG simple CDB`, and a last word DATA
+// `cmd I 0 0 TAG ATTRIBUTE CDB`, and a last word DATA
 fn cmd_form(alloc: Global, mut words: Parts<'_>) -> Result<Option<Word>, NoMemory>
     ensures word { IfOk result (λ word. word ≡ option_map kept (cmd_of words.entry)) }
     ensures in_range { IfOk result (λ word. IfSome word IsInRange) }
@@ -124,8 +152,8 @@ fn cmd_form(alloc: Global, mut words: Parts<'_>) -> Result<Option<Word>, NoMemor
     let Some(cdb) = words.next() else {
         return Ok(None);
     };
-    if spells(port, "0") && spells(number, "0") && spells(attribute, "simple") {
-        command(alloc, init, tag, cdb, words)
+    if spells(port, "0") && spells(number, "0") {
+        command(alloc, init, tag, attribute, cdb, words)
     } else {
         Ok(None)
     }
@@ -135,6 +163,7 @@ fn command(
     alloc: Global,
     init: &[u8],
     tag: &[u8],
+    attribute: &[u8],
     cdb: &[u8],
     out: Parts<'_>,
 ) -> Result<Option<Word>, NoMemory>
@@ -142,6 +171,7 @@ fn command(
     ensures word { IfOk result (λ word. word ≡ option_map kept (command_of
         (number_in 0 15 init.now)
         (number_in 0 (2 ^ 32 - 1) tag.now)
+        (attribute_of attribute.now)
         (cdb_bytes_of cdb.now)
         (data_of out.entry))) }
 {
@@ -149,6 +179,9 @@ fn command(
         return Ok(None);
     };
     let Some(tag) = number_in(0, u32::MAX, tag) else {
+        return Ok(None);
+    };
+    let Some(attr) = attribute_in(attribute) else {
         return Ok(None);
     };
     let Some(cdb) = read_cdb(alloc, cdb)? else {
@@ -164,10 +197,24 @@ fn command(
         },
         x: 0,
         tag: Tag(tag),
-        attr: Attr2::Simple,
+        attr,
         cdb,
         out,
     }))
+}
+
+fn attribute_in(text: &[u8]) -> Option<Attr2>
+    ensures { result ≡ attribute_of text.now }
+{
+    if spells(text, "simple") {
+        Some(Attr2::Simple)
+    } else if spells(text, "ordered") {
+        Some(Attr2::Ordered)
+    } else if spells(text, "head") {
+        Some(Attr2::Head)
+    } else {
+        None
+    }
 }
 
 fn read_cdb(alloc: Global, text: &[u8]) -> Result<Option<CdbBytes>, NoMemory>

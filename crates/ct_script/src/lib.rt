@@ -14,4 +14,4 @@ mod script;
 
 pub use laws::scripts_are_read_line_by_line;
 pub use lines::parse;
-pub use script::{Line, ParseError, Script, ScriptFault, What, Word};
+pub use script::{Line, ParseError, Script, ScriptFault, Sizes, What, Word};

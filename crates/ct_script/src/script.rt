@@ -7,6 +7,13 @@ use ct_cdb::{Attr2, CdbBytes};
 use ct_word::{Bytes, LunNo, Nexus, NoMemory, Node, Tag};
 use std::marker::Model;
 
+/// How many commands a task set holds, and blocks a pool.
+#[derive(Clone, Copy, Debug, PartialEq, Eq)]
+pub struct Sizes {
+    pub depth: u32,
+    pub pool: u32,
+}
+
 /// What one line of a script says.
 #[derive(Debug, Drop)]
 pub enum Word {
@@ -14,6 +21,7 @@ pub enum Word {
     Lun {
         lun: LunNo,
         blocks: u32,
+        sizes: Sizes,
     },
     /// A port at a node.
     Port {
