@@ -57,7 +57,7 @@ ByLine o line (Cmd n x tag attr cdb out) before after = ByCommand o (command_in 
 ByLine o line (Step lun number blocks) before after = Acted o (act.Step number blocks) before after
 ByLine o line (Drain lun) before after = Drains o before after
 ByLine o line Sync before after = Drains o before after
-ByLine o line (Lun lun blocks) before after = after ≡ before
+ByLine o line (Lun lun blocks sizes) before after = after ≡ before
 ByLine o line (Port port node) before after = after ≡ before
 ByLine o line (Map n x lun) before after = after ≡ before
 

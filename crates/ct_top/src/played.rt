@@ -1,13 +1,13 @@
 //! What `play` does with one logical unit.
 
-ghost use Rattle.std.specs.Prelude.{◌≡◌, ◌≤◌, ◌<◌, [], length, replicate, IfOk, OnOk};
+ghost use Rattle.std.specs.Prelude.{◌≡◌, ◌≤◌, ◌<◌, [], Some, length, replicate, IfOk, OnOk};
 ghost use Rattle.ct_plan.specs.Plans.{plan_of};
 ghost use Rattle.ct_book.specs.Journals.{works_in};
 ghost use Rattle.ct_machine.specs.Runs.{replay, IsRun};
 ghost use Rattle.ct_pair.specs.Pairs.{medium_cuts};
-ghost use Rattle.ct_script.specs.Rules.{IsInRange};
+ghost use Rattle.ct_script.specs.Rules.{IsInRange, declared_blocks};
 ghost use Rattle.ct_script.specs.Lines.{IsWithin};
-ghost use Rattle.ct_top.specs.Commands.{commands_of, pieces_in, room_of, opening_of};
+ghost use Rattle.ct_top.specs.Commands.{commands_of, pieces_in, room_of, declared_sizes, opening_of};
 ghost use Rattle.ct_top.specs.Played.{point_of, Drains, ByLine, ByLines, IsPlayed};
 
 use ct_book::{Cmd, Work};
@@ -18,20 +18,19 @@ use ct_law::{
 };
 use ct_medium::Backend;
 use ct_pair::{Act, Answer, End, Pair};
-use ct_script::{Line, Script, Word};
-use ct_word::limit::{DEPTH, MOST_BLOCKS, MOST_STEP, POOL};
+use ct_script::{Line, Script, Sizes, Word};
+use ct_word::limit::{DEPTH, MOST_STEP, POOL};
 use ct_word::{CmdNo, Ha, LunNo, NoMemory, Node, Room};
 use std::alloc::Global;
 
 /// The number under which a nexus sees the unit, as a set of bits.
 const VISIBLE: u16 = 1;
 
-/// Plays a script on the logical unit that it declares, over a medium of that many blocks. The error is that memory ran
-/// out, which can be before an act alone. An act fails only where an
+/// Plays a script on the logical unit that it declares, with the task set and the pool that it declares, over a medium
+/// of as many blocks. The error is that memory ran out, which can be before an act alone. An act fails only where an
 /// operation of the medium failed meanwhile.
 pub fn play_on<B: Backend>(alloc: Global, script: Script, medium: B) -> Result<End<B>, NoMemory>
-    requires some { 1 ≤ length (B.blocks medium) }
-    requires few { length (B.blocks medium) ≤ MOST_BLOCKS }
+    requires declared { declared_blocks script ≡ Some (length (B.blocks medium)) }
     requires zeros { B.blocks medium ≡ replicate (length (B.blocks medium)) (replicate 512 0) }
     requires unfailed { B.faults medium ≡ 0 }
     ensures lun { IfOk result (λ end. end.lun ≡ record { 0 = 0 }) }
@@ -45,7 +44,8 @@ pub fn play_on<B: Backend>(alloc: Global, script: Script, medium: B) -> Result<E
     works_are_kept();
     script.is_within();
     let room = room_of(script.lines(), medium.len());
-    let mut pair = Pair::open(alloc, Ha::None, LunNo(0), DEPTH, POOL, room, medium)?;
+    let Sizes { depth, pool } = sizes_of(script.lines());
+    let mut pair = Pair::open(alloc, Ha::None, LunNo(0), depth, pool, room, medium)?;
     play_lines(alloc, &mut pair, script.into_lines())?;
     drain(&mut pair);
     Ok(pair.close())
@@ -54,7 +54,7 @@ pub fn play_on<B: Backend>(alloc: Global, script: Script, medium: B) -> Result<E
 // Exactly the room that the commands of these lines take, on a disk of so many blocks.
 fn room_of(lines: &[Line], blocks: u32) -> Room
     requires within { IsWithin lines.now }
-    requires few { blocks ≤ MOST_BLOCKS }
+    requires declared { declared_blocks lines.now ≡ Some blocks }
     ensures { result ≡ room_of blocks lines.now }
 {
     let mut commands = 0;
@@ -69,6 +69,21 @@ fn room_of(lines: &[Line], blocks: u32) -> Room
         commands,
         functions: 0,
         pieces: pieces as u32,
+    }
+}
+
+// How many commands and blocks of a pool the unit has that these lines declare.
+fn sizes_of(lines: &[Line]) -> Sizes
+    ensures { result ≡ declared_sizes lines.now }
+{
+    for line in lines {
+        if let Word::Lun { sizes, .. } = &line.word {
+            return *sizes;
+        }
+    }
+    Sizes {
+        depth: DEPTH,
+        pool: POOL,
     }
 }
 

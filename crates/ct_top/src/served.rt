@@ -160,6 +160,7 @@ fn declared_blocks(lines: &[Line]) -> Option<u32>
 fn play_unit(alloc: Global, script: Script, blocks: u32) -> Result<UnitEnd, NoMemory>
     requires some { 1 ≤ blocks }
     requires few { blocks ≤ MOST_BLOCKS }
+    requires declared { declared_blocks script ≡ Some blocks }
     ensures { IfOk result (λ end. IsEnd blocks script end) }
 {
     every_run_is_lawful();

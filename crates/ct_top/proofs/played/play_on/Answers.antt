@@ -1,4 +1,4 @@
-use Rattle.std.proofs.Common.{rules, arith, ℕ, ◌≡◌, ◌<◌, [], List, length, sym, ap, ◌∙◌, subst}
+use Rattle.std.proofs.Common.{rules, arith, ℕ, ◌≡◌, ◌<◌, [], List, Some, length, sym, ap, ◌∙◌, subst}
 use Rattle.ct_word.specs.declared.names.Room.{Room}
 use Rattle.ct_book.specs.declared.event.Logged.{Logged}
 use Rattle.ct_book.specs.Journals.{BookState}
@@ -7,6 +7,7 @@ use Rattle.ct_machine.specs.declared.act.Opening.{Opening}
 use Rattle.ct_pair.specs.Pairs.{medium_cuts}
 use Rattle.ct_script.specs.declared.script.Line.{Line}
 use Rattle.ct_script.specs.Lines.{IsWithin}
+use Rattle.ct_script.specs.Rules.{declared_blocks}
 use Rattle.ct_top.specs.Commands.{room_of, opening_of}
 use Rattle.ct_top.specs.Played.{point_of, Drains, ByLines, IsPlayed}
 use Rattle.ct_top.proofs.Ranges.{few_events}
@@ -17,7 +18,7 @@ pub open-requires-clause-events : goal.open-requires-clause-events
 open-requires-clause-events g c =
     subst (λ (room : Room). events_for room < 4294967296) (sym c.room_of-room.ensures)
     (few_events c.len.result c.lines.result.now (subst IsWithin (sym c.lines.ensures) c.is_within.ensures)
-    (omega (arith, c.len.ensures, c.requires.few)))
+    (ap declared_blocks c.lines.ensures ∙ c.requires.declared ∙ ap Some (sym c.len.ensures)))
 
 pub returns-clause-played : goal.returns-clause-played
 returns-clause-played g c =
