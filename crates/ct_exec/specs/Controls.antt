@@ -24,9 +24,9 @@ pub record Disk : Type 0 where
   pub control : ControlState
   pub blocks : List (List ℕ)
 
--- QUEUE ALGORITHM MODIFIER says that reordering is unrestricted (SPC-4, Control mode page); it can't be changed
+-- QUEUE ALGORITHM MODIFIER says that reordering is unrestricted (SPC-4, Control mode page)
 unfoldable pub is_unrestricted : ControlState → Bool
-is_unrestricted control = false
+is_unrestricted control = control.pages.free_order
 
 -- D_SENSE says that sense data have the descriptor form (SPC-4, Control mode page)
 unfoldable pub has_descriptors : ControlState → Bool

@@ -160,12 +160,12 @@ impl Control {
         self.reservations.input(action, allocation, into);
     }
 
-    /// Whether reordering is unrestricted.
+    /// Whether reordering is unrestricted (SPC-4, Control mode page).
     #[tactic(auto, unfolding(crate::specs::Controls::is_unrestricted))]
     pub fn is_unrestricted(&self) -> bool
         ensures { result ≡ is_unrestricted self.now }
     {
-        false
+        self.pages.free_order
     }
 
     /// Whether a command that another nexus aborts ends with TASK ABORTED (SPC-4, Control mode page).

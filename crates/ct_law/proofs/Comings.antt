@@ -167,7 +167,7 @@ arriving_so laws o s journal node w h = go (has_room_for w s)
 delivered_so : (P : ℕ → ℕ → Type 0) (o : Opening) (s : State) (journal : List Logged) (node : Node) (k : Kind2) (n : ℕ) → Inv P o s journal → Inv P o s (journal ++ told (event.Deliver node k n) ∷ [])
 delivered_so P o s journal node k n h = record {
   frame = record {
-    each = each_more (LawfulAt o) [] journal e h.frame.each (record { once = λ m z. absurd (cc); typed = tt; orderly = tt; plan = tt; prefix = tt; cells = tt; sound = tt; legal = λ r. tt });
+    each = each_more (LawfulAt o) [] journal e h.frame.each (record { once = λ m z. absurd (cc); typed = tt; orderly = tt; reorders = tt; plan = tt; prefix = tt; cells = tt; sound = tt; legal = λ r. tt });
     works = h.frame.works ∙ sym (works_in-none journal e refl);
     size = h.frame.size;
     books = books_function journal s.arrivals s.tasks s.to_a e h.frame.books (λ m. refl) (λ y hy z. z) (λ m z i. i);

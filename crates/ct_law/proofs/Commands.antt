@@ -49,7 +49,7 @@ use Rattle.ct_ua.specs.Attentions.{first_code}
 use Rattle.ct_ua.proofs.Nexuses.{nothing_taken, first_left}
 use Rattle.ct_book.specs.declared.work.Command.{Command}
 use Rattle.ct_book.specs.Works.{profile_in}
-use Rattle.ct_exec.specs.Controls.{ControlState, Disk, closing_control, tells_aborts}
+use Rattle.ct_exec.specs.Controls.{ControlState, Disk, closing_control, is_unrestricted, tells_aborts}
 use Rattle.ct_exec.specs.Modes.{list_fault}
 use Rattle.ct_exec.specs.Reserving.{action_fault}
 use Rattle.ct_exec.specs.Changes.{attention_taken, changed_by, decoded_change, changed_control}
@@ -423,6 +423,14 @@ allowed_law unrestricted n a b x y disk apart moves none =
     allows_unrefused disk.control (execute disk b).disk.control n a
     (executed_allows disk n b (unchanging unrestricted n a b x y apart moves)) none
 
+reorders_law : (unrestricted : Bool) (n : ℕ) (a b : Command) (x y : Bool) (disk : Disk)
+    → conflicts unrestricted (held_by n a x) (held_by n b y) ≡ false → has_operations (plan_in n a) ≡ true
+    → is_unrestricted (execute disk b).disk.control ≡ is_unrestricted disk.control
+unfolding is_unrestricted
+reorders_law unrestricted n a b x y disk apart moves =
+    ap (λ (pages : ModePages). pages.free_order)
+    (executed_allows disk n b (unchanging unrestricted n a b x y apart moves)).pages
+
 sizes_law : (disk : Disk) (c : Command) → length (execute disk c).disk.blocks ≡ length disk.blocks
 sizes_law disk c = executions (λ d c e. length e.disk.blocks ≡ length d.blocks) disk c (λ reply. refl) (perform_size c.out (plan_in (length disk.blocks) c) (begun disk c))
 
@@ -496,5 +504,6 @@ laws = record {
   spared = spared_law;
   unclearing = unclearing_law;
   moving_clears = moving_law;
+  reorders = reorders_law;
   clears_told = told_law;
 }

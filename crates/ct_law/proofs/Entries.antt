@@ -37,6 +37,7 @@ turned_so P o s journal n reply h u new within cause other closed = record {
       once = λ m k. subst (λ i. has (is_entry i) journal ≡ false) (eqb-true n m k) u.entry;
       typed = (cause.0, cause.1);
       orderly = tt;
+      reorders = tt;
       plan = tt;
       prefix = tt;
       cells = tt;

@@ -65,6 +65,7 @@ rejected_so P o s journal n node ask h u new within came = record {
       once = λ m k. subst (λ i. has (is_entry i) journal ≡ false) (eqb-true n m k) u.entry;
       typed = (ask, function_in P o s journal n node ask h.frame came, u.asking);
       orderly = tt;
+      reorders = tt;
       plan = tt;
       prefix = λ a m c f g i j. absurd (both_ways (has (is_asked n) journal) u.asking j);
       cells = tt;
@@ -98,6 +99,7 @@ closes_so P laws o s journal p idle h hp none = record {
       once = λ m k. subst (λ i. has (is_entry i) journal ≡ false) (eqb-true p.no m k) a.entry;
       typed = (p.ask, in_journal, a.asking ∙ sym (ap not (unrejected (list_any (is_sought p.ask) s.tasks))));
       orderly = tt;
+      reorders = tt;
       plan = tt;
       prefix = behind;
       cells = tt;
@@ -252,7 +254,7 @@ pub asked_so : (P : ℕ → ℕ → Type 0) (o : Opening) (s : State) (journal :
     numbered n s.arrivals ≡ Some (record { node = node; work = work.Ask ask }) → Inv (Due n ask s.tasks (numbers_of s.tasks)) o (taken_up n ask s) (journal ++ told (event.Asked n) ∷ [])
 asked_so P o s journal n node ask idle h u new within came = record {
   frame = record {
-    each = each_more (LawfulAt o) [] journal e h.frame.each (record { once = λ m k. absurd (cc); typed = (ask, function_in P o s journal n node ask h.frame came); orderly = tt; plan = tt; prefix = tt; cells = tt; sound = tt; legal = λ r. tt });
+    each = each_more (LawfulAt o) [] journal e h.frame.each (record { once = λ m k. absurd (cc); typed = (ask, function_in P o s journal n node ask h.frame came); orderly = tt; reorders = tt; plan = tt; prefix = tt; cells = tt; sound = tt; legal = λ r. tt });
     works = h.frame.works ∙ sym (works_in-none journal e refl);
     size = h.frame.size;
     books = books;

@@ -22,6 +22,7 @@ use Rattle.ct_law.proofs.Books.{IsAsk}
 use Rattle.ct_law.proofs.Walk.{Now, NoneDue}
 use Rattle.ct_law.proofs.Comings.{every_run}
 use Rattle.ct_law.proofs.Busy.{next_is_busy, idle_is_quiet}
+use Rattle.ct_law.proofs.Endings.{ends_good}
 use Rattle.ct_law.proofs.Heard.{HeardAt, heard_runs}
 use Rattle.ct_law.proofs.Complete.{IsOpenNo, IsGiven, given_run}
 
@@ -82,9 +83,11 @@ lawful o journal run = record {
   once = record { at_most = each_map (LawfulAt o) _ (λ before l h. h.once) [] journal each; all = over_when_quiet o journal run };
   typed = each_map (LawfulAt o) _ (λ before l h. h.typed) [] journal each;
   orderly = each_map (LawfulAt o) _ (λ before l h. h.orderly) [] journal each;
+  reorders = each_map (LawfulAt o) _ (λ before l h. h.reorders) [] journal each;
   plans = each_map (LawfulAt o) _ (λ before l h. h.plan) [] journal each;
   prefix = each_map (LawfulAt o) _ (λ before l h. h.prefix) [] journal each;
   cells = record { replies = each_map (LawfulAt o) _ (λ before l h. h.cells) [] journal each; blocks = now.inv.cells.blocks 0 };
+  endings = each_map (LawfulAt o) _ (λ before l h. ends_good o before l.event l.reply h.cells) [] journal each;
   timely = record { each = now.schedule.timely; done = now.schedule.due };
   tells = each_map (HeardAt o) _ (λ before l h. h.tells) [] journal heard;
   answers = each_map (HeardAt o) _ (λ before l h. h.answers) [] journal heard;

@@ -10,7 +10,7 @@ use Rattle.ct_plan.specs.Cells.{performed}
 use Rattle.ct_matrix.specs.declared.held.Held.{Held}
 use Rattle.ct_matrix.specs.Conflicts.{conflicts, skips}
 use Rattle.ct_book.specs.declared.work.Command.{Command}
-use Rattle.ct_exec.specs.Controls.{ControlState, Disk, closing_control, tells_aborts}
+use Rattle.ct_exec.specs.Controls.{ControlState, Disk, closing_control, is_unrestricted, tells_aborts}
 use Rattle.ct_exec.specs.Executions.{Execution, execute, refusal_of, plan_in, reply_moved}
 use Rattle.ct_machine.specs.States.{held_by}
 use Rattle.ct_law.proofs.Blocks.{uses, puts, start}
@@ -66,5 +66,7 @@ pub record Laws : Type 0 where
   -- under either modifier what doesn't conflict with a command that moves blocks clears no nexus, nor does that command
   pub unclearing : (unrestricted : Bool) (n : ℕ) (a b : Command) (x y : Bool) (disk : Disk) (nexus : Nexus) → conflicts unrestricted (held_by n a x) (held_by n b y) ≡ false → has_operations (plan_in n a) ≡ true → contains (execute disk b).cleared nexus ≡ false
   pub moving_clears : (n : ℕ) (disk : Disk) (c : Command) (nexus : Nexus) → length disk.blocks ≡ n → has_operations (plan_in n c) ≡ true → contains (execute disk c).cleared nexus ≡ false
+  -- under either modifier what doesn't conflict with a command that moves blocks leaves the modifier
+  pub reorders : (unrestricted : Bool) (n : ℕ) (a b : Command) (x y : Bool) (disk : Disk) → conflicts unrestricted (held_by n a x) (held_by n b y) ≡ false → has_operations (plan_in n a) ≡ true → is_unrestricted (execute disk b).disk.control ≡ is_unrestricted disk.control
   -- what clears a nexus leaves TAS
   pub clears_told : (disk : Disk) (c : Command) (nexus : Nexus) → contains (execute disk c).cleared nexus ≡ true → tells_aborts (execute disk c).disk.control ≡ tells_aborts disk.control

@@ -36,6 +36,7 @@ pub mod Complete
 pub mod Writes
 pub mod Busy
 pub mod Live
+pub mod Endings
 pub mod Lawful
 pub mod Weights
 pub mod Fits

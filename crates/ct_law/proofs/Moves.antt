@@ -179,8 +179,8 @@ begun_so P laws o s journal x t idle h hx st ready none allowed moves = record {
     known = known_in P o s journal x h.frame hx
 
     lawful : (t : Bool) → IsBehindAll o journal x.no → LawfulAt o journal (told (first_event t x.no))
-    lawful true b = record { once = λ m k. absurd (cc); typed = (x.command, known); orderly = b; plan = tt; prefix = tt; cells = tt; sound = tt; legal = λ r. tt }
-    lawful false b = record { once = λ m k. absurd (cc); typed = (x.command, known); orderly = b; plan = tt; prefix = tt; cells = tt; sound = tt; legal = λ r. tt }
+    lawful true b = record { once = λ m k. absurd (cc); typed = (x.command, known); orderly = b; reorders = tt; plan = tt; prefix = tt; cells = tt; sound = tt; legal = λ r. tt }
+    lawful false b = record { once = λ m k. absurd (cc); typed = (x.command, known); orderly = b; reorders = tt; plan = tt; prefix = tt; cells = tt; sound = tt; legal = λ r. tt }
 
 -- Moves
 
@@ -204,6 +204,7 @@ moves_so P o s journal x count done got h hx at = record {
         once = λ m k. absurd (cc);
         typed = (c, known_in P o s journal x h.frame hx);
         orderly = tt;
+        reorders = tt;
         plan = (h.cells.gained x hx alive).difference;
         prefix = unended;
         cells = tt;

@@ -17,7 +17,7 @@ use Rattle.ct_book.specs.Journals.{numbered, works_in}
 use Rattle.ct_book.specs.Histories.{cut_at}
 use Rattle.ct_exec.specs.Controls.{Disk, is_unrestricted}
 use Rattle.ct_machine.specs.declared.act.Opening.{Opening}
-use Rattle.ct_machine.specs.States.{Task, Waiting, Over, Open, Arrival, State, is_waiting, done_at, with_task, at_stage}
+use Rattle.ct_machine.specs.States.{Task, Stage, Waiting, Here, Granted, There, Over, Open, Arrival, State, is_waiting, has_begun, done_at, with_task, at_stage}
 use Rattle.ct_machine.specs.Serial.{disk_after, serial_disk}
 use Rattle.ct_machine.specs.Laws.Journals.{has, is_entry, is_begin, is_enter, is_asked, IsCommandOf, IsFunctionOf}
 use Rattle.ct_machine.specs.Laws.Legal.{IsRestricted}
@@ -44,7 +44,7 @@ use Rattle.ct_machine.specs.Laws.Journals.{made_by}
 use Rattle.ct_machine.specs.Laws.Legal.{RepliesAsExecuted, IsCutFor}
 use Rattle.ct_law.proofs.Laws.{Laws, IsOnce, Same}
 use Rattle.ct_law.proofs.Ready.{IsReady}
-use Rattle.ct_law.proofs.Ends.{IsAt, at_active, at_done, at_further, running_in, cut_held, cut_rules, ran_held}
+use Rattle.ct_law.proofs.Ends.{IsAt, at_active, at_done, at_further, running_in, cut_held, cut_rules, ran_held, ready_begun}
 use Rattle.ct_law.proofs.Ends.{ran_rules, once_same, once_rules, once_held, puts_at, disk_cut, comes_to, moved_state}
 use Rattle.ct_law.proofs.Inv.{in_order}
 use Rattle.ct_law.proofs.Entries.{Own, over_state, over_alone, entry_so}
@@ -83,6 +83,8 @@ ends_so P laws o s journal x done got found h hx at gained made held =
         once = once_entry x.no journal (unended P o s journal x h.frame hx b.0);
         typed = (x.command, known);
         orderly = λ k. absurd (both_ways _ k begun);
+        reorders = λ a entered began left.
+            ap is_unrestricted (ap (λ w. (command_ran w d).control) known ∙ sym ran.control ∙ h.rules.control);
         plan = λ k none c w.
             subst (λ z. made_by x.no journal ≡ length (plan_in o.blocks z)) (same_command c w)
             (made (sym gained.difference ∙ none));
@@ -103,8 +105,7 @@ ends_so P laws o s journal x done got found h hx at gained made held =
       own = own_alone P o s journal x e.event h.frame hx (λ m. refl) (λ m i. i);
       opens = opens_alone P o s journal x e h.frame hx (λ p hp ne. (ne_eqb x.no p.no ne, refl));
       blocks_same = refl;
-      rules = subst (λ w. Rules o.blocks (command_ran w d) s.control (with_task (at_stage Over x) s.tasks)) (sym known)
-          (ran_rules laws o.blocks d s.control s.tasks x h.rules hx active);
+      rules = subst (λ w. Rules o.blocks (command_ran w d) s.control (with_task (at_stage Over x) s.tasks)) (sym known) ran;
       holds = λ r. subst (λ w. Holds o.blocks (command_ran w d) s.blocks (with_task (at_stage Over x) s.tasks))
           (sym known) (held r).0;
     })
@@ -120,6 +121,9 @@ ends_so P laws o s journal x done got found h hx at gained made held =
 
     active : is_active x.stage ≡ true
     active = at_active x.stage done got at
+
+    ran : Rules o.blocks (execute d x.command).disk s.control (with_task (at_stage Over x) s.tasks)
+    ran = ran_rules laws o.blocks d s.control s.tasks x h.rules hx active
 
     begun : has (is_begin x.no) journal ≡ true
     begun = h.frame.books.begin x hx b.0 ∙ ap not b.1
@@ -217,6 +221,14 @@ differed_so P laws o s journal x count done got offset h hx at differs =
         subst (λ disk. IsWhole o.blocks disk now w (Some offset) p.cells.got) (sym (serial-same o journal e refl))
         (subst (λ q. Holds o.blocks (execute d x.command).disk p.cells.blocks q) same k.0, k.1)
 
+-- what has begun and isn't over is active
+still_active : (stage : Stage) → is_over stage ≡ false → has_begun stage ≡ true → is_active stage ≡ true
+still_active Waiting alive begun = absurd (cc)
+still_active (Here done got) alive begun = refl
+still_active Granted alive begun = refl
+still_active (There done got) alive begun = refl
+still_active Over alive begun = absurd (cc)
+
 -- a command that is refused when it would begin, or has no block operation, ends at once
 pub once_ends : (P : ℕ → ℕ → Type 0) (laws : Laws) (o : Opening) (s : State) (journal : List Logged) (x : Task) → Inv P o s journal → Has s.tasks x → x.stage ≡ Waiting → IsReady o.blocks (is_unrestricted s.control) x s.tasks → IsOnce (refusal_of s.control o.blocks x.command) (plan_in o.blocks x.command) →
     Inv P o (over_state s x s.functions (execute (disk_of s) x.command).disk.control (execute (disk_of s) x.command).disk.blocks) (journal ++ replied (event.Ended x.no) (execute (disk_of s) x.command).reply ∷ [])
@@ -227,6 +239,8 @@ once_ends P laws o s journal x h hx st ready is_once =
         once = once_entry x.no journal (unended P o s journal x h.frame hx (ap is_over st));
         typed = (x.command, known);
         orderly = λ k. in_order P laws o s journal x h hx st ready;
+        reorders = λ a entered began left.
+            ap (λ w. is_unrestricted (command_ran w d).control) known ∙ keeps a entered began left;
         plan = λ k. absurd (both_ways _ unbegun k);
         prefix = tt;
         cells = λ k. absurd (both_ways _ unbegun k);
@@ -264,6 +278,22 @@ once_ends P laws o s journal x h hx st ready is_once =
 
     same : Same d s.control s.blocks x.command
     same = once_same laws o.blocks d s.control s.blocks x.command h.rules.sized h.frame.size h.rules.control is_once
+
+    -- a command that has begun and isn't over moves blocks, and this one doesn't conflict with it
+    keeps : (n : ℕ) → has (is_enter n) journal ≡ true → has (is_begin n) journal ≡ true →
+        has (is_entry n) journal ≡ false → is_unrestricted (execute d x.command).disk.control ≡ is_unrestricted d.control
+    keeps n entered began left =
+        let live = h.frame.books.live n entered left in
+        let y : Task = live.0 in
+        let alive : is_over y.stage ≡ false =
+        sym (h.frame.books.entry y live.1) ∙ ap (λ m. has (is_entry m) journal) live.2 ∙ left in
+        let begun : has_begun y.stage ≡ true =
+        sym (h.frame.books.begin y live.1 alive) ∙ ap (λ m. has (is_begin m) journal) live.2 ∙ began in
+        let other : y.no ≡ x.no → ⊥ =
+        λ k. both_ways _ unbegun (ap (λ m. has (is_begin m) journal) (sym k ∙ live.2) ∙ began) in
+        laws.reorders (is_unrestricted s.control) o.blocks y.command x.command (has_begun y.stage) (has_begun x.stage) d
+        (ready_begun laws o.blocks (is_unrestricted s.control) s.tasks x y h.rules.single ready live.1 other begun)
+        (h.rules.allowed y live.1 (still_active y.stage alive begun)).1
 
     as_executed : RepliesAsExecuted o journal x.no (Some a.reply)
     as_executed = (x.command, known, ap Some same.reply)
@@ -311,6 +341,7 @@ medium_so P o s journal x done got operation h hx at failed =
       once = once_entry x.no journal (unended P o s journal x h.frame hx b.0);
       typed = (x.command, known_in P o s journal x h.frame hx);
       orderly = tt;
+      reorders = tt;
       plan = (h.cells.gained x hx b.0).difference;
       prefix = (prefix_of P o s journal x h.frame hx b.0, tt);
       cells = tt;
@@ -344,6 +375,7 @@ by_so P o s journal x f node ask told_so h hx alive came hit asked unclosed =
       once = once_entry x.no journal (unended P o s journal x h.frame hx alive);
       typed = ((x.command, known_in P o s journal x h.frame hx), ap is_some in_journal);
       orderly = tt;
+      reorders = tt;
       plan = (h.cells.gained x hx alive).difference;
       prefix = (prefix_of P o s journal x h.frame hx alive, λ a w. (asked, unclosed));
       cells = tt;
@@ -390,6 +422,7 @@ cleared_so P o s journal x n c told_so h hx waits by entered gone =
       once = once_entry x.no journal (unended P o s journal x h.frame hx alive);
       typed = ((x.command, known_in P o s journal x h.frame hx), ap is_some by);
       orderly = tt;
+      reorders = tt;
       plan = (h.cells.gained x hx alive).difference;
       prefix = (prefix_of P o s journal x h.frame hx alive, λ a w. absurd (no_function a w));
       cells = tt;

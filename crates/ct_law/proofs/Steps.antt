@@ -78,7 +78,7 @@ pub came_so : (P : ℕ → ℕ → Type 0) (o : Opening) (s : State) (journal : 
     Inv P o (came_with s (record { node = node; work = w }) room to_a) (journal ++ arrived n node w ∷ [])
 came_so P o s journal n node w room to_a next h comes = record {
   frame = record {
-    each = each_more (LawfulAt o) [] journal e h.frame.each (record { once = λ m k. absurd (cc); typed = tt; orderly = tt; plan = tt; prefix = tt; cells = tt; sound = tt; legal = λ r. tt });
+    each = each_more (LawfulAt o) [] journal e h.frame.each (record { once = λ m k. absurd (cc); typed = tt; orderly = tt; reorders = tt; plan = tt; prefix = tt; cells = tt; sound = tt; legal = λ r. tt });
     works = map-append (λ (a : Arrival). a.work) s.arrivals (arrival ∷ []) ∙ ap (λ ws. ws ++ w ∷ []) h.frame.works ∙ sym (works_in-more journal e (Some w) refl);
     size = h.frame.size;
     books = comes.books;
@@ -103,7 +103,7 @@ pub enter_so : (P : ℕ → ℕ → Type 0) (o : Opening) (s : State) (journal :
     numbered n s.arrivals ≡ Some (record { node = node; work = work.Cmd c }) → turned_cause (replay o journal) c ≡ None → Inv P o (record s { tasks = queued (new_task n node c) s.tasks }) (journal ++ told (event.Enter n) ∷ [])
 enter_so P o s journal n node c h u new at free = record {
   frame = record {
-    each = each_more (LawfulAt o) [] journal e h.frame.each (record { once = λ m k. absurd (cc); typed = (c, known); orderly = tt; plan = tt; prefix = tt; cells = tt; sound = (c, known, free); legal = λ r. tt });
+    each = each_more (LawfulAt o) [] journal e h.frame.each (record { once = λ m k. absurd (cc); typed = (c, known); orderly = tt; reorders = tt; plan = tt; prefix = tt; cells = tt; sound = (c, known, free); legal = λ r. tt });
     works = h.frame.works ∙ sym (works_in-none journal e refl);
     size = h.frame.size;
     books = books_in journal s.arrivals s.tasks s.to_a w e refl h.frame.books refl u new at;

@@ -14,8 +14,9 @@ pub use liveness::{
 pub use safety::{
     blocks_are_serial_at_rest, control_is_serial, every_run_is_lawful, runs_answer_each_work_once,
     runs_answer_functions, runs_are_by_cells, runs_are_legal, runs_are_orderly, runs_are_sound,
-    runs_are_timely, runs_are_typed, runs_close_by_number, runs_make_their_plans,
-    runs_record_prefixes, runs_tell_of_cuts, runs_wait_for_functions,
+    runs_are_timely, runs_are_typed, runs_close_by_number, runs_end_good_or_differ,
+    runs_make_their_plans, runs_record_prefixes, runs_reorder_at_rest, runs_tell_of_cuts,
+    runs_wait_for_functions,
 };
 pub use works::{arrivals_alone_take_room, works_are_kept};
 
@@ -31,9 +32,11 @@ mod tests {
         runs_answer_each_work_once();
         runs_are_typed();
         runs_are_orderly();
+        runs_reorder_at_rest();
         runs_make_their_plans();
         runs_record_prefixes();
         runs_are_by_cells();
+        runs_end_good_or_differ();
         runs_are_timely();
         runs_tell_of_cuts();
         runs_answer_functions();

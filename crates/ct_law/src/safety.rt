@@ -8,7 +8,9 @@ ghost use Rattle.ct_machine.specs.Runs.{replay, IsRun};
 ghost use Rattle.ct_machine.specs.Laws.Once.{EachOnce};
 ghost use Rattle.ct_machine.specs.Laws.Kinds.{IsTyped};
 ghost use Rattle.ct_machine.specs.Laws.Orderly.{IsOrderly};
+ghost use Rattle.ct_machine.specs.Laws.Reorders.{ReordersAtRest};
 ghost use Rattle.ct_machine.specs.Laws.Cells.{MakesPlans, IsByCells};
+ghost use Rattle.ct_machine.specs.Laws.Endings.{EndsGoodOrDiffers};
 ghost use Rattle.ct_machine.specs.Laws.Prefix.{RecordsPrefix};
 ghost use Rattle.ct_machine.specs.Laws.Legal.{IsRestricted, IsLegal, IsSound};
 ghost use Rattle.ct_machine.specs.Laws.Timely.{IsTimely};
@@ -49,6 +51,11 @@ pub fn runs_are_orderly()
     ensures { (opening : Opening) (journal : List Logged) → IsRun opening journal → IsOrderly opening journal }
 {}
 
+/// A command changes QUEUE ALGORITHM MODIFIER only where no command has begun that isn't over (SPC-4, Control mode page).
+pub fn runs_reorder_at_rest()
+    ensures { (opening : Opening) (journal : List Logged) → IsRun opening journal → ReordersAtRest opening journal }
+{}
+
 /// A command that found a difference isn't moved on, nor cut; one that began and ends without a difference made its whole
 /// plan.
 pub fn runs_make_their_plans()
@@ -64,6 +71,12 @@ pub fn runs_record_prefixes()
 /// The blocks, and the data of each command that moved, are those of the recorded moves, made in their order.
 pub fn runs_are_by_cells()
     ensures { (opening : Opening) (journal : List Logged) → IsRun opening journal → IsByCells opening journal }
+{}
+
+/// A command that made block operations and ended has GOOD, or, where one of them compares, MISCOMPARE DURING VERIFY
+/// OPERATION (SBC-3, COMPARE AND WRITE and VERIFY).
+pub fn runs_end_good_or_differ()
+    ensures { (opening : Opening) (journal : List Logged) → IsRun opening journal → EndsGoodOrDiffers opening journal }
 {}
 
 /// What a command clears is cut right behind its end, and no other command is cut by one (SPC-4, PREEMPT AND ABORT).

@@ -2,9 +2,11 @@
 pub mod Journals
 pub mod Once
 pub mod Orderly
+pub mod Reorders
 pub mod Prefix
 pub mod Kinds
 pub mod Cells
+pub mod Endings
 pub mod Legal
 pub mod Timely
 pub mod Functions
@@ -17,9 +19,11 @@ use Rattle.ct_machine.specs.Runs.{replay}
 use Rattle.ct_machine.specs.Serial.{serial_disk}
 use Rattle.ct_machine.specs.Laws.Once.{EachOnce}
 use Rattle.ct_machine.specs.Laws.Orderly.{IsOrderly}
+use Rattle.ct_machine.specs.Laws.Reorders.{ReordersAtRest}
 use Rattle.ct_machine.specs.Laws.Prefix.{RecordsPrefix}
 use Rattle.ct_machine.specs.Laws.Kinds.{IsTyped}
 use Rattle.ct_machine.specs.Laws.Cells.{MakesPlans, IsByCells}
+use Rattle.ct_machine.specs.Laws.Endings.{EndsGoodOrDiffers}
 use Rattle.ct_machine.specs.Laws.Legal.{IsRestricted, IsLegal, IsSound}
 use Rattle.ct_machine.specs.Laws.Timely.{IsTimely}
 use Rattle.ct_machine.specs.Laws.Functions.{TellsOfCuts, AnswersFunctions, WaitsForFunctions, ClosesByNumber}
@@ -32,9 +36,11 @@ pub record IsLawful (o : Opening) (journal : List Logged) : Type 0 where
   pub once : EachOnce o journal
   pub typed : IsTyped journal
   pub orderly : IsOrderly o journal
+  pub reorders : ReordersAtRest o journal
   pub plans : MakesPlans o journal
   pub prefix : RecordsPrefix o journal
   pub cells : IsByCells o journal
+  pub endings : EndsGoodOrDiffers o journal
   pub timely : IsTimely o journal
   pub tells : TellsOfCuts o journal
   pub answers : AnswersFunctions o journal

@@ -8,9 +8,10 @@ use Rattle.ct_pages.specs.declared.pages.ModePages.{ModePages}
 abbrev pub default_pages : ModePages
 default_pages = record { descriptor = false; free_order = false; protect = false; tas = false; cache = true }
 
--- the changeable fields, each of one bit, all of its bits set. QUEUE ALGORITHM MODIFIER isn't changeable
+-- the changeable fields, each of one bit, and all of those bits set. Of the four bits of QUEUE ALGORITHM MODIFIER the lowest
+-- is changeable: its values are 0h and 1h
 abbrev pub changeable_pages : ModePages
-changeable_pages = record { descriptor = true; free_order = false; protect = true; tas = true; cache = true }
+changeable_pages = record { descriptor = true; free_order = true; protect = true; tas = true; cache = true }
 
 -- the values that PC asks for. There are no saved values: a command that asks for them is refused, and where it isn't
 -- they are the default ones

@@ -20,7 +20,12 @@ with_caching page pages = record pages { cache = is_set 2 0x04 page }
 
 abbrev pub with_control : List ℕ → ModePages → ModePages
 with_control page pages =
-    record pages { descriptor = is_set 2 0x04 page; protect = is_set 4 0x08 page; tas = is_set 5 0x40 page }
+    record pages {
+      descriptor = is_set 2 0x04 page;
+      free_order = is_set 3 0x10 page;
+      protect = is_set 4 0x08 page;
+      tas = is_set 5 0x40 page;
+    }
 
 -- two pages have the same bytes behind PAGE LENGTH
 abbrev pub have_same_fields : List ℕ → List ℕ → Bool

@@ -1,11 +1,10 @@
 //! Laws of the definitions of this crate, each the contract of a function with an empty body.
 
-ghost use Rattle.std.specs.Prelude.{◌≡◌, ◌+◌, ℕ, Bool, length, min, false};
+ghost use Rattle.std.specs.Prelude.{◌≡◌, ◌+◌, ℕ, Bool, length, min};
 ghost use Rattle.ct_cdb.specs.declared.op.Form.{Form};
 ghost use Rattle.ct_cdb.specs.declared.choices.PageControl.{PageControl};
 ghost use Rattle.ct_cdb.specs.declared.choices.ModePage.{ModePage};
 ghost use Rattle.ct_cdb.specs.Commands.Modes.{header_length, descriptor_length, mode_length};
-ghost use Rattle.ct_param.specs.declared.mode.ModeList.{ModeList};
 ghost use Rattle.ct_param.specs.ModeLists.{no_pages};
 ghost use Rattle.ct_pages.specs.declared.pages.ModePages.{ModePages as AnyPages};
 ghost use Rattle.ct_pages.specs.Pages.{caching_page, control_page};
@@ -24,13 +23,11 @@ pub fn lengths()
         ≡ min allocation (header_length form + descriptor_length no_descriptor + mode_length page) }
 {}
 
-/// A list without a page changes nothing, and no list changes QUEUE ALGORITHM MODIFIER. Other values, as MODE SENSE
-/// would tell them, are accepted, and are the values afterwards.
+/// A list without a page changes nothing. Any values, as MODE SENSE would tell them, are accepted, and are the values
+/// afterwards.
 pub fn selects()
     ensures nothing { (pages : AnyPages) → selected_pages pages no_pages ≡ Ok pages }
-    ensures order { (pages selected : AnyPages) (list : ModeList) →
-        selected_pages pages list ≡ Ok selected → selected.free_order ≡ pages.free_order }
-    ensures told { (pages new : AnyPages) → new.free_order ≡ pages.free_order →
+    ensures told { (pages new : AnyPages) →
         selected_pages pages (record { caching = Some (caching_page new); control = Some (control_page new) })
         ≡ Ok new }
 {}

@@ -53,7 +53,7 @@ impl ModePages {
     {
         ModePages {
             descriptor: true,
-            free_order: false,
+            free_order: true,
             protect: true,
             tas: true,
             cache: true,

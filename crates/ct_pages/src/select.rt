@@ -48,6 +48,7 @@ fn after_control(page: &[u8; 12], pages: ModePages) -> Result<ModePages, ListFau
 {
     let selected = ModePages {
         descriptor: is_set(2, 0x04, page),
+        free_order: is_set(3, 0x10, page),
         protect: is_set(4, 0x08, page),
         tas: is_set(5, 0x40, page),
         ..pages

@@ -6,11 +6,11 @@ use ct_word::{NoMemory, Reserve};
 use std::alloc::Global;
 use std::process::Abort;
 
-/// The current values, of which all but the modifier differ from the default ones.
+/// The current values, all of which differ from the default ones.
 fn changed() -> ModePages {
     ModePages {
         descriptor: true,
-        free_order: false,
+        free_order: true,
         protect: true,
         tas: true,
         cache: false,
@@ -21,10 +21,10 @@ fn changed() -> ModePages {
 fn pages(control: PageControl) -> &'static [u8; 32] {
     match control {
         PageControl::Current => {
-            b"\x08\x12\0\0\0\0\0\0\0\0\0\0\0\0\0\0\0\0\0\0\x0a\x0a\x04\0\x08\x40\0\0\0\0\0\0"
+            b"\x08\x12\0\0\0\0\0\0\0\0\0\0\0\0\0\0\0\0\0\0\x0a\x0a\x04\x10\x08\x40\0\0\0\0\0\0"
         }
         PageControl::Changeable => {
-            b"\x08\x12\x04\0\0\0\0\0\0\0\0\0\0\0\0\0\0\0\0\0\x0a\x0a\x04\0\x08\x40\0\0\0\0\0\0"
+            b"\x08\x12\x04\0\0\0\0\0\0\0\0\0\0\0\0\0\0\0\0\0\x0a\x0a\x04\x10\x08\x40\0\0\0\0\0\0"
         }
         PageControl::Default | PageControl::Saved => {
             b"\x08\x12\x04\0\0\0\0\0\0\0\0\0\0\0\0\0\0\0\0\0\x0a\x0a\0\0\0\0\0\0\0\0\0\0"

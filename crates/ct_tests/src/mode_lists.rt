@@ -143,12 +143,21 @@ fn pages_are_applied_together(rt: HostRuntime) {
         ..pages
     };
     assert_eq!(rt; selected(&rt, LONG_BOTH, true), Some(cached));
+    let mut free = [0; 16];
+    free.copy_from_slice(CONTROL);
+    free[7] = 0x10;
+    let unrestricted = ModePages {
+        free_order: true,
+        ..pages
+    };
+    assert_eq!(rt; selected(&rt, &free, false), Some(unrestricted));
     assert!(rt; !ModeList::is_empty(&read_mode(CONTROL, false).unwrap_or(ModeList::none())));
-    // each bit that isn't changeable, the modifier among them
+    // each bit that isn't changeable, and the values of the modifier that are reserved
     for (at, value) in [
         (2, 0x05),
         (2, 0x24),
-        (3, 0x10),
+        (3, 0x20),
+        (3, 0x90),
         (3, 0x06),
         (4, 0x18),
         (5, 0x41),

@@ -14,12 +14,8 @@ use Rattle.ct_pair.specs.Pairs.{PairState, Acts}
 use Rattle.std.specs.Prelude.{is_some}
 use Rattle.std.specs.List.{list_any}
 use Rattle.ct_word.specs.declared.limit.TheConstants.{MOST_STEP}
-use Rattle.ct_exec.specs.Controls.{ControlState, is_unrestricted}
 use Rattle.ct_machine.specs.States.{Task, task_of}
 use Rattle.ct_machine.specs.Acts.Steps.{is_sent}
-use Rattle.ct_machine.specs.Serial.{serial_disk}
-use Rattle.ct_machine.specs.Laws.Journals.{EachBehind}
-use Rattle.ct_machine.specs.Laws.Legal.{IsRestricted}
 use Rattle.ct_machine.specs.Laws.Live.{NeverStops}
 use Rattle.ct_top.specs.Played.{Point, point_of, Acted, next, Drains, idle, more}
 
@@ -78,16 +74,3 @@ at_rest o before after d never = go (replay o after.journal).tasks refl
         ap (λ ts. is_some (task_of x.no ts) || list_any (is_sent x.no) (replay o after.journal).to_a) e
         ∙ ap (λ t. is_some (cond t (Some x) (task_of x.no xs)) || list_any (is_sent x.no) (replay o after.journal).to_a) (eq-eqb x.no x.no refl) in
         absurd (never x.no MOST_STEP idles.0 live (omega arith) idles.1)
-
--- reordering is always restricted at this stage
-
-never_free : (control : ControlState) → is_unrestricted control ≡ false
-unfolding is_unrestricted
-never_free control = refl
-
-each_restricted : (o : Opening) (before journal : List Logged) → EachBehind (λ b l. is_unrestricted (serial_disk o b).control ≡ false) before journal
-each_restricted o before [] = tt
-each_restricted o before (l ∷ journal) = (never_free (serial_disk o before).control, each_restricted o (before ++ l ∷ []) journal)
-
-pub restricted : (o : Opening) (journal : List Logged) → IsRestricted o journal
-restricted o journal = record { each = each_restricted o [] journal; last = never_free (serial_disk o journal).control }

@@ -4,7 +4,7 @@ use Rattle.std.specs.Prelude.{replicate}
 use Rattle.ct_machine.specs.Runs.{replay, IsRun}
 use Rattle.ct_top.specs.Commands.{opening_of}
 use Rattle.ct_top.specs.Played.{IsPlayed}
-use Rattle.ct_top.proofs.Draining.{at_rest, restricted}
+use Rattle.ct_top.proofs.Draining.{at_rest}
 use Rattle.ct_top.proofs.served.play_unit.Goals as goal
 
 pub returns : goal.returns
@@ -24,9 +24,9 @@ returns c =
       played = played;
       run = run;
       lawful = c.every_run_is_lawful.ensures opening journal run;
-      legal = c.runs_are_legal.ensures opening journal run (restricted opening journal);
+      legal = c.runs_are_legal.ensures opening journal run;
       arrived = c.in_ok-lun.ensures.arrived;
       rest = rest;
       disk = disk;
-      serial = disk ∙ c.blocks_are_serial_at_rest.ensures opening journal run (restricted opening journal) rest;
+      serial = λ restricted. disk ∙ c.blocks_are_serial_at_rest.ensures opening journal run restricted rest;
     }
