@@ -1187,6 +1187,7 @@ impl Unit {
     }
 
     fn move_task(&mut self, place: usize, blocks: usize) {
+        let mut begins = false;
         if !self.queue[place].has_begun {
             if let Some(refusal) = self.refusal(place) {
                 return self.end(place, refusal);
@@ -1194,7 +1195,10 @@ impl Unit {
             if self.queue[place].plan.operations() == 0 {
                 return self.perform(place);
             }
-            self.begin(place);
+            let task = &mut self.queue[place];
+            task.has_begun = true;
+            begins = true;
+            writeln!(self.report, "begun {}", task.number).unwrap();
         }
         let task = &mut self.queue[place];
         let (count, difference) = task.move_on(&mut self.disk, blocks);
@@ -1206,15 +1210,14 @@ impl Unit {
         } else if is_done {
             let got = std::mem::take(&mut self.queue[place].got);
             self.end(place, Answer::Good(got));
+        } else if begins {
+            self.hold_up_others(place);
         }
     }
 
-    fn begin(&mut self, place: usize) {
-        let task = &mut self.queue[place];
-        task.has_begun = true;
-        let number = task.number;
-        writeln!(self.report, "begun {number}").unwrap();
-        // what is ahead, or HEAD OF QUEUE, may have been ready beside it
+    /// Has those wait that were ready beside a command before it began: what is ahead of it, or HEAD OF QUEUE.
+    fn hold_up_others(&mut self, place: usize) {
+        let number = self.queue[place].number;
         for other in 0..self.queue.len() {
             let waiting = &self.queue[other];
             if waiting.is_ready()

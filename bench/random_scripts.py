@@ -48,7 +48,8 @@ class Maker:
         self.without = without
         self.blocks = random.choice((1, 2, 5, 16, 16, 40, 40, 40, 64, 300, 65_536))
         self.hosts = random.sample(range(16), random.choice((1, 2, 2, 3, 4)))
-        self.largest = random.choice((2, 4, 8, 8, 20, 256))
+        # (without limits of its own a unit never is busy)
+        self.largest = random.choice((2, 4, 8, 8) if "limits" in without else (2, 4, 8, 8, 20, 256))
         self.bytes = random.choice((b"\x00", b"\x00\xa5", b"\x00\x01\x02"))
         self.attributes = ["simple"] if "attributes" in without else random.choice(
             (["simple"], ["simple"] * 6 + ["ordered", "head"], ["simple", "ordered", "head"]))
@@ -96,11 +97,10 @@ class Maker:
         if code in (0x41, 0x93):
             count, flags = max(1, count), flags & 0x08
         if chance(40):
-            count = random.choice((most, most + 1, 0, 65_535))
+            count = random.choice((0, most + 1, 65_535) if "limits" in self.without else (0, most, most + 1, 65_535))
         if code in (0x08, 0x0A):
-            count = count or 256 * chance(4)
+            count = count % 256 or ("limits" in self.without) or 256
             cdb = bytes([code]) + big_endian(lba % (1 << 21), 3) + bytes([count % 256, 0])
-            count = 256 if count % 256 == 0 else count % 256
         elif code == 0x89:
             cdb = bytes([code, flags]) + big_endian(lba, 8) + bytes([0, 0, 0, count % 256, 0, 0])
             count = count % 256
