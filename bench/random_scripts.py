@@ -2,8 +2,8 @@
 """Plays random scripts with a program and with the plain one, and compares reports, statuses and what they say:
 bench/random_scripts.py [--plain PROGRAM] [--without WORD,..] N SEED [PROGRAM WORD ..]
 The N scripts are those of the numbers SEED, SEED + 1, .. . A script on which the two differ is made shorter, line by
-line, as long as they differ, and is printed. With no --plain, bench/plain.rs is built by rustc -O. With no PROGRAM, it is
-the one that the gate leaves. WORD of --without is what a program can't do yet: attributes, limits, modifier."""
+line, as long as they differ, and is printed. With no --plain, bench/plain.rs is built by rustc -O. With no PROGRAM, it
+is the one that the gate leaves. WORD of --without is what a program can't do yet: attributes, limits, modifier."""
 import argparse
 import os
 import random
@@ -53,17 +53,23 @@ class Maker:
         self.bytes = random.choice((b"\x00", b"\x00\xa5", b"\x00\x01\x02"))
         self.attributes = ["simple"] if "attributes" in without else random.choice(
             (["simple"], ["simple"] * 6 + ["ordered", "head"], ["simple", "ordered", "head"]))
-        self.tags = random.choice((4, 40, 4_294_967_296))
+        self.tags = random.choice((12, 100, 4_294_967_296, 4_294_967_296))
         self.kinds = random.choice((
             [(self.transfer, 10), (self.unmap, 2), (self.inquiry, 1)],
             [(self.transfer, 6), (self.unmap, 1), (self.mode, 3), (self.still, 2)],
             [(self.transfer, 4), (self.reserve, 6), (self.still, 1), (self.mode, 1)],
-            [(self.transfer, 6), (self.unmap, 2), (self.mode, 1), (self.reserve, 1), (self.still, 2), (self.inquiry, 1)],
+            [(self.transfer, 6), (self.unmap, 2), (self.mode, 1), (self.reserve, 2), (self.still, 2)],
             [(self.unmap, 4), (self.transfer, 3), (self.mode, 1)],
         ))
         self.came = 0
+        self.depth = 64 if "limits" in without or chance(4) else random.choice((1, 2, 3, 5, 8, 64, 256))
+        self.pool = random.choice((1, 2, 4, 9, 20, 64, 1_024, 4_096))
         # how fast what came is done
         self.steps, self.drains = random.choice(((1, 30), (3, 40), (2, 200), (0, 12), (4, 400)))
+        self.drains = min(self.drains, 2 * self.depth)
+
+        self.kind = random.choice((1, 3, 5, 6, 7, 8))
+        self.host = self.hosts[0]
 
     def block(self):
         return bytes([random.choice(self.bytes)]) * BLOCK
@@ -78,16 +84,17 @@ class Maker:
 
     def place(self, most):
         """An LBA and a count, mostly on the disk."""
-        count = random.randrange(min(self.largest, most) + 1)
+        count = random.randrange(min(self.largest, most, self.blocks) + 1)
+        last = self.blocks - count
         if chance(12):
-            lba = self.blocks - random.randrange(min(count, self.blocks) + 1)
-        else:
-            lba = random.randrange(max(1, min(self.blocks, 64) - count // (1 + random.randrange(8)) + 1))
+            return last + (chance(3)), count
+        lba = random.randrange(min(last, 64) + 1)
         return lba, count
 
     def transfer(self):
         code = random.choice((
-            0x08, 0x28, 0xA8, 0x88, 0x28, 0x0A, 0x2A, 0xAA, 0x8A, 0x2A, 0x2E, 0x8E, 0x2F, 0xAF, 0x8F, 0x89, 0x89, 0x41, 0x93))
+            0x08, 0x28, 0xA8, 0x88, 0x28, 0x0A, 0x2A, 0xAA, 0x8A, 0x2A, 0x2E, 0x8E, 0x2F, 0xAF, 0x8F, 0x89, 0x89, 0x41,
+            0x93))
         flags, compares = random.choice((0, 0, 0, 0x10, 0x08)), False
         most = {0x89: 128}.get(code, 256)
         lba, count = self.place(most)
@@ -168,7 +175,8 @@ class Maker:
         data = bytearray(head + descriptor + b"".join(pages))
         if data and chance(15):
             # (not the modifier, where it isn't there)
-            allowed = [at for at in range(len(data)) if "modifier" not in self.without or data[at - 3:at - 1] != b"\x0a\x0a"]
+            keeps = "modifier" in self.without
+            allowed = [at for at in range(len(data)) if not keeps or data[at - 3:at - 1] != b"\x0a\x0a"]
             if allowed:
                 data[random.choice(allowed)] ^= 1 << random.randrange(8)
         asked = len(data)
@@ -184,11 +192,15 @@ class Maker:
             action = random.choice((0, 1, 2, 3, 3, 4))
             allocation = random.choice((65_535, 65_535, random.randrange(60)))
             return bytes([0x5E, action, 0, 0, 0, 0, 0]) + big_endian(allocation, 2) + b"\x00", None
-        action = random.choice((0, 0, 6, 6, 1, 1, 1, 2, 3, 4, 4, 5, 5, 5, 7 if chance(20) else 0))
-        kind = random.choice((1, 3, 5, 6, 7, 8, 5, 8))
+        action = random.choice((0, 0, 0, 6, 6, 6, 1, 2, 2, 3, 4, 5, 5, 5, 7 if chance(20) else 0))
+        kind = self.kind if chance(2) else random.choice((1, 3, 5, 6, 7, 8))
         if chance(40):
             kind = random.randrange(256)
-        key, service_key = random.choice((0, 1, 1, 2)), random.choice((0, 1, 1, 2, 2))
+        # (a host mostly has one key, that others may have too)
+        key = random.randrange(3) if chance(4) else self.host % 2 + 1
+        service_key = random.randrange(3) if action in (4, 5) or chance(8) else self.host % 2 + 1
+        if action == 0 and chance(2):
+            key = 0
         data = bytearray(big_endian(key, 8) + big_endian(service_key, 8) + bytes(8))
         asked = 24
         if chance(40):
@@ -228,6 +240,7 @@ class Maker:
         return bytes([0x12, 0, page if chance(9) else 0]) + big_endian(allocation, 2) + b"\x00", None
 
     def command(self):
+        self.host = random.choice(self.hosts)
         makers, weights = zip(*self.kinds)
         cdb, data = random.choices(makers, weights)[0]()
         cdb = bytearray(cdb)
@@ -238,8 +251,8 @@ class Maker:
         if data is not None and chance(25):
             data = data[:random.randrange(len(data) + 1)] if chance(2) else data + bytes(random.randrange(1_000))
         self.came += 1
-        host, attribute = random.choice(self.hosts), random.choice(self.attributes)
-        words = f"cmd {host} 0 0 {random.randrange(self.tags)} {attribute} {byte_text(bytes(cdb))}"
+        attribute = random.choice(self.attributes)
+        words = f"cmd {self.host} 0 0 {random.randrange(self.tags)} {attribute} {byte_text(bytes(cdb))}"
         return f"{words} {byte_text(data)}" if data else words
 
     def step(self):
@@ -248,16 +261,17 @@ class Maker:
 
     def declaration(self):
         words = f"lun 0 blocks {self.blocks}"
-        if "limits" in self.without or chance(4):
+        if "limits" in self.without or self.depth == 64 and chance(2):
             return words
-        depth, pool = random.choice((1, 2, 3, 5, 8, 64, 256)), random.choice((1, 2, 4, 9, 20, 64, 1_024, 4_096))
-        return f"{words} depth {depth} pool {pool}"
+        return f"{words} depth {self.depth} pool {self.pool}"
 
     def script(self):
         lines = [self.declaration(), "port 0 a"] + [f"map {host} 0 0 0" for host in self.hosts]
         if not chance(5):
             self.came += len(self.hosts)
-            lines += [f"cmd {host} 0 0 0 simple 000000000000" for host in self.hosts if self.came] + ["sync"]
+            for host in self.hosts:
+                lines += [f"cmd {host} 0 0 0 simple 000000000000"] + ["sync"] * (self.depth < 4)
+            lines.append("sync")
         most = random.choice((5, 20, 50) if "limits" in self.without else (5, 20, 50, 100, 300))
         while self.came < most:
             lines.append(self.command())
@@ -283,9 +297,11 @@ def damaged(text):
         del line[random.randrange(len(line))]
     elif kind == 3:
         line = random.choice((
-            b"", b"lun 0 blocks 0", b"lun 0 blocks 65537", b"lun 0 blocks 16", b"port 0 a", b"port 0 b", b"map 0 0 0 0", b"sync 0",
-            b"map 16 0 0 0", b"drain 1", b"step 0 1 0", b"step 0 1 65537", b"step 0 4294967296 1", b"cmd 0 0 0 1 simple", b"drain 0",
-            b"cmd 0 0 0 1 simple 00*33", b"cmd 0 0 0 1 simple 00*6 00*131073", b"cmd 0 0 0 1 simple 00*6 00*99999999999999999999",
+            b"", b"lun 0 blocks 0", b"lun 0 blocks 65537", b"lun 0 blocks 16", b"port 0 a", b"port 0 b", b"map 0 0 0 0",
+            b"lun 0 blocks 16 depth 257 pool 1", b"lun 0 blocks 16 depth 1 pool 4097", b"lun 0 blocks 16 depth 2",
+            b"sync 0", b"map 16 0 0 0", b"drain 1", b"drain 0", b"step 0 1 0", b"step 0 1 65537",
+            b"step 0 4294967296 1", b"cmd 0 0 0 1 simple", b"cmd 0 0 0 1 aca 00*6", b"cmd 0 0 0 1 simple 00*33",
+            b"cmd 0 0 0 1 simple 00*6 00*131073", b"cmd 0 0 0 1 simple 00*6 00*99999999999999999999",
             b"cmd 15 0 0 01 simple 00*6", b"cmd 0 0 0 1 simple 00*6 00*131072.00", b"cmd 0 0 0 1 simple 00*6 "))
     elif kind == 4:
         lines.insert(random.randrange(len(lines)), lines[at])
@@ -298,7 +314,8 @@ def damaged(text):
 def ended(words, script):
     """What a program writes, and how it ends."""
     try:
-        run = subprocess.run(words, input=script, stdout=subprocess.PIPE, stderr=subprocess.PIPE, timeout=60, check=False)
+        run = subprocess.run(
+            words, input=script, stdout=subprocess.PIPE, stderr=subprocess.PIPE, timeout=60, check=False)
     except subprocess.TimeoutExpired:
         return "it didn't end in 60 seconds"
     return run.stdout, run.stderr, run.returncode
