@@ -1,5 +1,6 @@
 #!/usr/bin/env python3
-"""Writes the inputs that docs/ARCHITECTURE.md has figures of into a folder: bench/inputs.py FOLDER"""
+"""Writes the inputs that docs/ARCHITECTURE.md has figures of into a folder: bench/inputs.py FOLDER
+The number in a name counts what the input has most of. Each but `noise` is there with half of it, too."""
 import os
 import random
 import sys
@@ -7,8 +8,12 @@ import sys
 # standard data, and each VPD page
 INQUIRIES = ["120000002400"] + [f"1201{page}00ff00" for page in ("00", "80", "83", "b0", "b2")]
 HOSTS = 4
+BLOCK = 512
+MOST_COMMANDS = 16_384
+# the limits of a unit: 256 commands at once, and 16 transfers of 256 blocks
+DEPTH, POOL = 256, 4_096
 # each host first takes its unit attention
-HEAD = ["lun 0 blocks 65536", "port 0 a"]
+HEAD = [f"lun 0 blocks 65536 depth {DEPTH} pool {POOL}", "port 0 a"]
 HEAD += [f"map {host} 0 0 0" for host in range(HOSTS)]
 HEAD += [f"cmd {host} 0 0 0 simple 000000000000" for host in range(HOSTS)] + ["sync"]
 
@@ -29,36 +34,44 @@ def transfer(codes, size, lba, count):
     return f"{code}00{lba:016x}{count:08x}0000"
 
 
-def line(tag, cdb, data=None):
-    words = f"cmd {tag % HOSTS} 0 0 {tag} simple {cdb}"
+def line(tag, cdb, data=None, attribute="simple"):
+    words = f"cmd {tag % HOSTS} 0 0 {tag} {attribute} {cdb}"
     return words if data is None else f"{words} {data}"
 
 
 def write(number, blocks, data, size=10):
-    return line(number, transfer(WRITES, size, number * 256, blocks), data)
+    """A WRITE of its own 256 blocks; the 257th has those of the first."""
+    return line(number, transfer(WRITES, size, number % 256 * 256, blocks), data)
 
 
 def read_back(number, blocks, size=10):
     """A READ of what `write` wrote, with a tag of its own."""
-    return line(number + 112, transfer(READS, size, number * 256, blocks))
+    return line(number + MOST_COMMANDS, transfer(READS, size, number % 256 * 256, blocks))
 
 
 def counted(blocks):
     """DATA of `blocks` blocks as one piece with a count."""
-    return f"a5*{512 * blocks}"
+    return f"a5*{BLOCK * blocks}"
 
 
 def random_pairs(blocks, between):
-    return between.join(f"{random.randrange(256):02x}" for _ in range(512 * blocks))
+    return between.join(f"{random.randrange(256):02x}" for _ in range(BLOCK * blocks))
+
+
+def drained(lines, every):
+    """The lines with a drain behind every so many."""
+    for at in range(0, len(lines), every):
+        yield from lines[at:at + every]
+        yield "drain 0"
 
 
 def script(lines):
-    return ("\n".join(HEAD + lines) + "\n").encode()
+    return ("\n".join([*HEAD, *lines]) + "\n").encode()
 
 
 def unmap(tag, ranges):
-    """An UNMAP of these ranges, each an LBA and a count."""
-    descriptors = "".join(f"{lba:016x}{count:08x}00000000" for lba, count in ranges)
+    """An UNMAP of these ranges, each an LBA and a count below 256."""
+    descriptors = "".join(f".00*4.{lba:08x}.00*3.{count:02x}.00*4" for lba, count in ranges)
     length = 16 * len(ranges)
     return line(tag, f"42000000000000{length + 8:04x}00", f"{length + 6:04x}{length:04x}00000000{descriptors}")
 
@@ -70,16 +83,16 @@ def mixed(tag):
     if kind == "unmap":
         return unmap(tag, [(16 * k + lba // 3, random.randrange(4)) for k in random.sample(range(3), 3)])
     if kind == "compare and write":
-        return line(tag, f"8900{lba:016x}000000{count:02x}0000", f"{byte}*{512 * count}.5a*{512 * count}")
+        return line(tag, f"8900{lba:016x}000000{count:02x}0000", f"{byte}*{BLOCK * count}.5a*{BLOCK * count}")
     code, data = {
         "read": ("2800", None),
-        "write": ("2a00", f"{byte}*{512 * count}"),
-        "write and verify": ("2e00", f"{byte}*{512 * count}"),
+        "write": ("2a00", f"{byte}*{BLOCK * count}"),
+        "write and verify": ("2e00", f"{byte}*{BLOCK * count}"),
         "look": ("2f00", None),
-        "compare": ("2f02", f"{byte}*{512 * count}"),
-        "same": ("4100", f"{byte}*512"),
+        "compare": ("2f02", f"{byte}*{BLOCK * count}"),
+        "same": ("4100", f"{byte}*{BLOCK}"),
     }[kind]
-    return line(tag, f"{code}{lba:08x}00{count:04x}00", data)
+    return line(tag, f"{code}{lba:08x}00{count:04x}00", data, random.choice(("simple",) * 8 + ("ordered", "head")))
 
 
 def mixed_script(commands):
@@ -87,33 +100,72 @@ def mixed_script(commands):
     lines = []
     for k in range(commands):
         lines.append(mixed(k))
-        lines += [f"step 0 {random.randrange(k + 1) + HOSTS + 1} {random.randrange(1, 5)}" for _ in range(3)]
+        came = k + 1 + HOSTS
+        lines += [f"step 0 {random.randrange(max(1, came - 32), came + 1)} {random.randrange(1, 5)}" for _ in range(2)]
+        if k % 32 == 31:
+            lines.append("drain 0")
     return script(lines)
+
+
+def stepped(steps):
+    """Writes that move a block a step: 16 at once, in turn."""
+    lines, came = [], HOSTS
+    for batch in range(steps // POOL):
+        lines += [write(16 * batch + k, 256, counted(256)) for k in range(16)]
+        lines += [f"step 0 {came + 1 + k % 16} 1" for k in range(POOL)]
+        came += 16
+    return script(lines)
+
+
+def reads_as_text(reads):
+    """Blocks of random bytes, and READs of 256 of them: three characters a byte are printed."""
+    same = [line(k, f"4100{k * 256:08x}00{256:04x}00", random_pairs(1, "")) for k in range(4)]
+    return script(same + ["sync"] + list(drained([read_back(k % 4, 256) for k in range(reads)], 4)))
 
 
 def inputs():
     random.seed(1)
     yield "noise", random.randbytes(8 << 20)
-    for commands in (30, 60):
-        yield f"counted-{commands}", script([write(k, 256, counted(256)) for k in range(commands)])
+    # all of the data-out that a script may have
+    for commands in (512, 1_024):
+        yield f"counted-{commands}", script(drained([write(k, 256, counted(256)) for k in range(commands)], 16))
     for commands in (15, 30):
-        yield f"pairs-{commands}", script([write(k, 256, random_pairs(256, "")) for k in range(commands)])
+        yield f"pairs-{commands}", script(drained([write(k, 256, random_pairs(256, "")) for k in range(commands)], 15))
     for commands in (10, 20):
-        yield f"pieces-{commands}", script([write(k, 256, random_pairs(256, ".")) for k in range(commands)])
+        yield f"pieces-{commands}", script(drained([write(k, 256, random_pairs(256, ".")) for k in range(commands)], 10))
     for commands in (15, 30):
         writes = [write(k, 256, random_pairs(256, "")) for k in range(commands)]
-        yield f"reads-{commands}", script(writes + [read_back(k, 256) for k in range(commands)])
+        yield f"reads-{commands}", script(drained(writes + [read_back(k, 256) for k in range(commands)], 15))
     for commands in (15, 30):
         sizes = [(6, 10, 12, 16)[k % 4] for k in range(commands)]
         writes = [write(k, 256, random_pairs(256, ""), size) for k, size in enumerate(sizes)]
-        yield f"forms-{commands}", script(writes + [read_back(k, 256, size) for k, size in enumerate(sizes)])
-    yield "inquiries-60", script([line(k, INQUIRIES[k % len(INQUIRIES)]) for k in range(60)])
-    for steps in (16_000, 32_000, 65_000):
-        writes = [write(k, 256, counted(256)) for k in range(60)]
-        yield f"steps-{steps}", script(writes + [f"step 0 {k % 60 + HOSTS + 1} 1" for k in range(steps)])
+        reads = [read_back(k, 256, size) for k, size in enumerate(sizes)]
+        yield f"forms-{commands}", script(drained(writes + reads, 15))
+    # all of the data-in that a script may have
+    for reads in (510, 1_020):
+        yield f"texts-{reads}", reads_as_text(reads)
+    for commands in (8_190, 16_380):
+        asked = [line(k, INQUIRIES[k % len(INQUIRIES)]) for k in range(commands)]
+        yield f"inquiries-{commands}", script(drained(asked, DEPTH))
+    for commands in (8_190, 16_380):
+        reads = [line(k, transfer(READS, 10, 7 * k % 65_536, 1)) for k in range(commands)]
+        yield f"single-{commands}", script(drained(reads, DEPTH))
+    # each waits for the one before it
+    for commands in (2_048, 4_096):
+        writes = [line(k, transfer(WRITES, 10, 8, 1), counted(1)) for k in range(commands)]
+        yield f"chain-{commands}", script(drained(writes, DEPTH))
+    # each goes ahead of all that wait
+    for commands in (2_048, 4_096):
+        heads = [line(k, transfer(WRITES, 10, 8, 1), counted(1), "head") for k in range(commands)]
+        yield f"heads-{commands}", script(drained(heads, DEPTH))
+    for steps in (16_384, 32_768, 61_440):
+        yield f"steps-{steps}", stepped(steps)
     # all wait in one task set: their ranges lie between one another, and no two share a block
-    yield "unmaps-60", script([unmap(k, [(64 * j + k, 1) for j in range(64)]) for k in range(60)])
-    yield "mixed-60", mixed_script(60)
+    for commands in (2_048, 4_096):
+        unmaps = [unmap(k, [(256 * j + k % DEPTH, 1) for j in range(64)]) for k in range(commands)]
+        yield f"unmaps-{commands}", script(drained(unmaps, DEPTH))
+    for commands in (8_000, 16_000):
+        yield f"mixed-{commands}", mixed_script(commands)
 
 
 def main():

@@ -1,8 +1,10 @@
 #!/usr/bin/env python3
 """Measures a program beside the plain one: bench/measure.py [--plain PROGRAM] FOLDER PROGRAM WORD ..
 First the two must end alike on each input of the folder: the same bytes on standard output, the same status. Then a
-line for each input has, of both, the least processor time of five runs, the most memory and, where valgrind is there,
-the instructions, with their ratios. With no --plain, bench/plain.rs is built by rustc -O."""
+line for each input has, of both, the least processor time of five runs, the most memory and the instructions, where perf
+or valgrind counts them, with their ratios. `most` is the memory that the inputs' own sizes allow: script, data-out, disk
+and report, and a quarter. Last comes what twice the work costs, where an input is there with half its number.
+With no --plain, bench/plain.rs is built by rustc -O."""
 import os
 import re
 import resource
@@ -38,15 +40,33 @@ def measured(words, script):
     return float(seconds), int(kilobytes)
 
 
+PERF = ["perf", "stat", "-x", ",", "-e", "instructions:u"]
+VALGRIND = ["valgrind", "--tool=callgrind", "--callgrind-out-file=/dev/null"]
+
+
 def instructions(words, script):
-    """The instructions of a run, or None where there is no valgrind."""
-    if not shutil.which("valgrind"):
-        return None
-    tool = ["valgrind", "--tool=callgrind", "--callgrind-out-file=/dev/null"]
+    """The instructions of a run, or None where nothing counts them."""
+    for tool, count in ((PERF, rb"^(\d+),,instructions"), (VALGRIND, rb"Collected : (\d+)")):
+        if shutil.which(tool[0]):
+            with open(script, "rb") as file:
+                run = subprocess.run(
+                    tool + words, stdin=file, stdout=subprocess.DEVNULL, stderr=subprocess.PIPE, check=False)
+            found = re.search(count, run.stderr, re.MULTILINE)
+            if found:
+                return int(found[1])
+    return None
+
+
+def allowed_memory(script, report):
+    """Script, data-out, disk and report in kilobytes, and a quarter of it."""
     with open(script, "rb") as file:
-        run = subprocess.run(tool + words, stdin=file, stdout=subprocess.DEVNULL, stderr=subprocess.PIPE, check=False)
-    found = re.search(rb"Collected : (\d+)", run.stderr)
-    return int(found[1]) if found else None
+        text = file.read()
+    data = re.findall(rb"^cmd(?: \S+){6} (\S+)$", text, re.MULTILINE)
+    digits = sum(len(re.sub(rb"\*\d+|\.", b"", piece)) for piece in data)
+    repeats = sum(int(count) - 1 for piece in data for count in re.findall(rb"\*(\d+)", piece))
+    blocks = re.match(rb"lun 0 blocks (\d+)", text)
+    disk = 512 * int(blocks[1]) if blocks else 0
+    return (len(text) + digits // 2 + repeats + disk + report) * 5 // 4 // 1024
 
 
 def figures(words, script):
@@ -73,15 +93,31 @@ def measure(folder, program, plain):
         lengths[script] = len(report)
         del report
     print(f"{len(scripts)} inputs: the two programs end alike on each")
-    row = "{:14} {:>9} {:>9} {:>7} {:>7} {:>5} {:>8} {:>8} {:>8} {:>8} {:>5}"
-    print(row.format("input", "script", "report", "s", "plain", "ratio", "kB", "plain", "M instr", "plain", "ratio"))
+    row = "{:16} {:>9} {:>9} {:>7} {:>7} {:>5} {:>7} {:>7} {:>7} {:>8} {:>8} {:>5}"
+    print(row.format(
+        "input", "script", "report", "s", "plain", "ratio", "kB", "plain", "most", "M instr", "plain", "ratio"))
+    measured_at = {}
     for script in scripts:
+        name = os.path.basename(script).removesuffix(".script")
         seconds, kilobytes, count = figures(program, script)
         plain_seconds, plain_kilobytes, plain_count = figures(plain, script)
+        measured_at[name] = seconds, count
         print(row.format(
-            os.path.basename(script).removesuffix(".script"), os.path.getsize(script), lengths[script],
-            f"{seconds:.3f}", f"{plain_seconds:.3f}", ratio(seconds, plain_seconds), kilobytes, plain_kilobytes,
+            name, os.path.getsize(script), lengths[script], f"{seconds:.3f}", f"{plain_seconds:.3f}",
+            ratio(seconds, plain_seconds), kilobytes, plain_kilobytes, allowed_memory(script, lengths[script]),
             in_millions(count), in_millions(plain_count), ratio(count, plain_count)), flush=True)
+    print_doubled(measured_at)
+
+
+def print_doubled(measured_at):
+    """How many times the time and the instructions of half the work an input takes."""
+    print("{:16} {:>7} {:>7}".format("twice the work", "s", "instr"))
+    for name, (seconds, count) in measured_at.items():
+        kind, _, number = name.rpartition("-")
+        half = f"{kind}-{int(number) // 2}" if number.isdigit() else ""
+        if half in measured_at:
+            print("{:16} {:>7} {:>7}".format(
+                name, ratio(seconds, measured_at[half][0]), ratio(count, measured_at[half][1])), flush=True)
 
 
 def main():

@@ -1,40 +1,224 @@
-// The same job as a plain Rust program, as a yardstick of time: rustc -O bench/plain.rs
+// The same job as a plain Rust program, without checks or proofs: rustc -O bench/plain.rs
+// It is a yardstick of time and memory, and a second opinion on every byte of a report: it was written from the
+// standards and the rules of docs/, and shares no code with the target.
 use std::collections::HashSet;
-use std::io::Write;
+use std::io::{Read, Write};
 use std::ops::RangeInclusive;
 
 const BLOCK: usize = 512;
+const INITIATORS: usize = 16;
+
+const MOST_SCRIPT: u64 = 8_388_608;
+const MOST_LINES: usize = 65_536;
+const MOST_COMMANDS: usize = 16_384;
+const MOST_CDB: usize = 32;
+const MOST_DATA: usize = 131_072;
+const MOST_DATA_TOGETHER: usize = 134_217_728;
+const MOST_OPERATIONS: u64 = 262_144;
+const MOST_REGISTRANTS: usize = 64;
+const MOST_STEP: u32 = 65_536;
+
+// The script
 
 enum Line {
-    Lun { blocks: u32 },
+    Lun { blocks: u32, depth: usize, pool: u32 },
     Port,
-    Map { initiator: u32 },
-    Command(Command),
+    Map { initiator: u8 },
+    Command(Box<Command>),
     Step { number: u32, blocks: u32 },
     Drain,
     Sync,
 }
 
+#[derive(Clone, Copy, PartialEq)]
+enum Attribute {
+    Simple,
+    Ordered,
+    Head,
+}
+
 struct Command {
-    initiator: u32,
+    initiator: u8,
     tag: u32,
-    cdb: Vec<u8>,
-    data: Vec<u8>,
+    attribute: Attribute,
+    op: Result<Op, u16>,
+    /// The data-out, or None where it is longer than a line may have it.
+    out: Option<Vec<u8>>,
+}
+
+#[derive(Debug, Clone, Copy, PartialEq)]
+enum Fault {
+    Form,
+    Name,
+    Limit,
 }
 
 #[derive(Default)]
 struct Script {
     lines: Vec<Line>,
-    blocks: Option<u32>,
+    unit: Option<(u32, usize, u32)>,
     port: bool,
-    initiators: HashSet<u32>,
-    commands: usize,
-    operations: usize,
+    initiators: HashSet<u8>,
     acts: bool,
+    commands: usize,
+    data: usize,
+    operations: u64,
 }
 
+/// The value of a decimal number without leading zeros, or the greatest where it is greater.
+fn decimal(word: &[u8]) -> Option<u64> {
+    if word.is_empty() || word.len() > 1 && word[0] == b'0' || !word.iter().all(u8::is_ascii_digit) {
+        return None;
+    }
+    Some(word.iter().fold(0u64, |value, digit| value.saturating_mul(10).saturating_add((digit - b'0') as u64)))
+}
+
+fn number(word: &[u8], range: RangeInclusive<u32>) -> Option<u32> {
+    let is_in_range = |value: &u64| (*range.start() as u64..=*range.end() as u64).contains(value);
+    decimal(word).filter(is_in_range).map(|value| value as u32)
+}
+
+const NO_DIGIT: u8 = 0xff;
+
+const DIGITS: [u8; 256] = {
+    let mut digits = [NO_DIGIT; 256];
+    let mut value = 0;
+    while value < 16 {
+        digits[b"0123456789abcdef"[value] as usize] = value as u8;
+        digits[b"0123456789ABCDEF"[value] as usize] = value as u8;
+        value += 1;
+    }
+    digits
+};
+
+fn pair(digits: &[u8]) -> Option<u8> {
+    let (high, low) = (DIGITS[digits[0] as usize], DIGITS[digits[1] as usize]);
+    (high | low != NO_DIGIT).then_some(high << 4 | low)
+}
+
+/// The bytes of a byte text: None where it has no form of one, Some(None) where they are more than the most.
+fn byte_text(text: &[u8], most: usize) -> Option<Option<Vec<u8>>> {
+    let mut bytes = Vec::new();
+    let mut is_long = false;
+    for piece in text.split(|byte| *byte == b'.') {
+        if piece.len() > 2 && piece[2] == b'*' {
+            let byte = pair(piece)?;
+            let count = decimal(&piece[3..]).filter(|count| *count > 0)?;
+            is_long |= count > (most - bytes.len()) as u64;
+            if !is_long {
+                bytes.resize(bytes.len() + count as usize, byte);
+            }
+        } else {
+            if piece.is_empty() || piece.len() % 2 != 0 {
+                return None;
+            }
+            is_long |= piece.len() / 2 > most - bytes.len();
+            if is_long {
+                piece.chunks_exact(2).map(pair).collect::<Option<Vec<u8>>>()?;
+            } else {
+                bytes.reserve(piece.len() / 2);
+                for digits in piece.chunks_exact(2) {
+                    bytes.push(pair(digits)?);
+                }
+            }
+        }
+    }
+    Some((!is_long).then_some(bytes))
+}
+
+fn parse_line(text: &[u8]) -> Option<Line> {
+    let words: Vec<&[u8]> = text.split(|byte| *byte == b' ').collect();
+    Some(match words[..] {
+        [b"lun", b"0", b"blocks", blocks] => Line::Lun { blocks: number(blocks, 1..=65_536)?, depth: 64, pool: 1024 },
+        [b"lun", b"0", b"blocks", blocks, b"depth", depth, b"pool", pool] => Line::Lun {
+            blocks: number(blocks, 1..=65_536)?,
+            depth: number(depth, 1..=256)? as usize,
+            pool: number(pool, 1..=4096)?,
+        },
+        [b"port", b"0", b"a"] => Line::Port,
+        [b"map", initiator, b"0", b"0", b"0"] => Line::Map { initiator: number(initiator, 0..=15)? as u8 },
+        [b"cmd", initiator, b"0", b"0", tag, attribute, cdb, ref data @ ..] if data.len() <= 1 => {
+            Line::Command(Box::new(Command {
+                initiator: number(initiator, 0..=15)? as u8,
+                tag: number(tag, 0..=u32::MAX)?,
+                attribute: match attribute {
+                    b"simple" => Attribute::Simple,
+                    b"ordered" => Attribute::Ordered,
+                    b"head" => Attribute::Head,
+                    _ => return None,
+                },
+                op: decode(&byte_text(cdb, MOST_CDB)??),
+                out: data.first().map_or(Some(Some(Vec::new())), |text| byte_text(text, MOST_DATA))?,
+            }))
+        }
+        [b"step", b"0", command, blocks] => {
+            Line::Step { number: number(command, 0..=u32::MAX)?, blocks: number(blocks, 1..=MOST_STEP)? }
+        }
+        [b"drain", b"0"] => Line::Drain,
+        [b"sync"] => Line::Sync,
+        _ => return None,
+    })
+}
+
+impl Script {
+    /// Whether a line may stand behind those before it, by the names that it declares or uses.
+    fn is_named_well(&mut self, line: &Line) -> bool {
+        let sets_up = matches!(line, Line::Lun { .. } | Line::Port | Line::Map { .. });
+        if sets_up && self.acts {
+            return false;
+        }
+        self.acts |= !sets_up;
+        match line {
+            Line::Lun { blocks, depth, pool } => self.unit.replace((*blocks, *depth, *pool)).is_none(),
+            Line::Port => !std::mem::replace(&mut self.port, true),
+            Line::Map { initiator } => self.port && self.unit.is_some() && self.initiators.insert(*initiator),
+            Line::Command(command) => self.initiators.contains(&command.initiator),
+            Line::Step { .. } | Line::Drain => self.unit.is_some(),
+            Line::Sync => true,
+        }
+    }
+
+    /// Whether every limit is kept with this line.
+    fn is_within_limits(&mut self, line: &Line) -> bool {
+        if let (Line::Command(command), Some((blocks, _, _))) = (line, self.unit) {
+            let Some(out) = &command.out else { return false };
+            self.commands += 1;
+            self.data += out.len();
+            self.operations += command.op.as_ref().map_or(0, |op| op.operations(out, blocks));
+        }
+        self.lines.len() < MOST_LINES
+            && self.commands <= MOST_COMMANDS
+            && self.data <= MOST_DATA_TOGETHER
+            && self.operations <= MOST_OPERATIONS
+    }
+
+    fn add(&mut self, text: &[u8]) -> Result<(), Fault> {
+        let line = parse_line(text).ok_or(Fault::Form)?;
+        if !self.is_named_well(&line) {
+            return Err(Fault::Name);
+        }
+        if !self.is_within_limits(&line) {
+            return Err(Fault::Limit);
+        }
+        self.lines.push(line);
+        Ok(())
+    }
+}
+
+/// The script, or the number of its first line in fault and the fault. Each line ends with a line feed.
+fn parse_script(bytes: &[u8]) -> Result<Script, (usize, Fault)> {
+    let mut script = Script::default();
+    for (index, line) in bytes.split_inclusive(|byte| *byte == b'\n').enumerate() {
+        let text = line.strip_suffix(b"\n").ok_or((index + 1, Fault::Form))?;
+        script.add(text).map_err(|fault| (index + 1, fault))?;
+    }
+    Ok(script)
+}
+
+// Commands
+
 /// What a command does to its blocks, one phase after another.
-#[derive(Clone, Copy, PartialEq)]
+#[derive(Debug, Clone, Copy, PartialEq)]
 enum Phase {
     Get,
     Look,
@@ -45,292 +229,346 @@ enum Phase {
     Compare,
 }
 
-/// What a command does: its phases, each over its blocks, the bytes of data-out that it asks for, the fault of its
-/// parameter list, and data that aren't blocks.
-struct Transfer {
-    phases: &'static [Phase],
-    ranges: Vec<(usize, usize)>,
-    asked: usize,
-    fault: Option<Refusal>,
-    data: Vec<u8>,
-    reports_attention: bool,
+#[derive(Debug, Clone, Copy)]
+enum Op {
+    TestUnitReady,
+    RequestSense { descriptor: bool, allocation: usize },
+    Inquiry { page: Option<u8>, allocation: usize },
+    ReportLuns { select: u8, allocation: usize },
+    ReadCapacity10,
+    ReadCapacity16 { allocation: usize },
+    /// READ, WRITE, WRITE AND VERIFY, VERIFY, COMPARE AND WRITE and WRITE SAME.
+    Transfer { phases: &'static [Phase], first: u64, count: u64 },
+    Unmap { list: usize },
+    SynchronizeCache { first: u64, count: u64 },
+    StartStopUnit { start: bool },
+    ModeSelect { header: usize, list: usize },
+    ModeSense { header: usize, descriptor: bool, control: u8, page: u8, allocation: usize },
+    ReserveIn { action: u8, allocation: usize },
+    ReserveOut { action: u8, kind: u8, list: usize },
 }
 
-/// Why a command is refused, with its additional sense code.
-#[derive(Clone, Copy, PartialEq)]
-enum Refusal {
-    ShortData = 0x1a00,
-    Operation = 0x2000,
-    Range = 0x2100,
-    Field = 0x2400,
-    ListField = 0x2600,
-    PowerOn = 0x2901,
+/// The lines of the table of conflicts.
+#[derive(Clone, Copy)]
+enum Index {
+    Tur,
+    Inq,
+    RqS,
+    Cap,
+    Rd,
+    Wr,
+    Un,
+    Sy,
+    MSn,
+    MSl,
+    Res,
+    Sta,
 }
 
-/// A command in the task set.
-struct Task {
-    number: u32,
-    command: Command,
-    transfer: Result<Transfer, Refusal>,
-    begun: bool,
-    done: usize,
-    got: Vec<u8>,
+/// By the earlier command and the later one: skip (K), pass (P), block (B), extent (X); a small letter is no conflict
+/// where reordering is unrestricted.
+const CONFLICTS: [&[u8; 12]; 12] = [
+    b"PKKPPPPPPBBB", // Tur
+    b"PKKPPPPPPPPP", // Inq
+    b"PKKPPPPPPPPP", // RqS
+    b"PKKPPPPPPPPP", // Cap
+    b"PKKPPxxPPBBB", // Rd
+    b"PKKPxXxbPBBB", // Wr
+    b"PKKPxxxbPBBB", // Un
+    b"PKKPPPPPPBBB", // Sy
+    b"PKKPPPPPPBBB", // MSn
+    b"BKKBBBBBBBBB", // MSl
+    b"BKKBBBBBBBBB", // Res
+    b"BKKBBBBBBBBB", // Sta
+];
+
+const INVALID_OPERATION: u16 = 0x2000;
+const OUT_OF_RANGE: u16 = 0x2100;
+const INVALID_FIELD: u16 = 0x2400;
+const INVALID_LIST_FIELD: u16 = 0x2600;
+const LIST_LENGTH: u16 = 0x1a00;
+
+fn big_endian(bytes: &[u8]) -> u64 {
+    bytes.iter().fold(0, |value, byte| value << 8 | *byte as u64)
 }
 
-struct Unit {
-    disk: Vec<[u8; BLOCK]>,
-    told: HashSet<u32>,
-    arrived: u32,
-    tasks: Vec<Task>,
-    report: Vec<u8>,
-}
-
-fn number(word: &str, range: RangeInclusive<u32>) -> Option<u32> {
-    let is_plain = word == "0" || !word.starts_with(['0', '+']);
-    word.parse().ok().filter(|value| is_plain && range.contains(value))
-}
-
-fn push_pairs(bytes: &mut Vec<u8>, pairs: &[u8]) -> Option<()> {
-    if pairs.is_empty() || pairs.len() % 2 != 0 {
-        return None;
-    }
-    bytes.reserve(pairs.len() / 2);
-    let digit = |byte: u8| (byte as char).to_digit(16);
-    for pair in pairs.chunks_exact(2) {
-        bytes.push((digit(pair[0])? * 16 + digit(pair[1])?) as u8);
-    }
-    Some(())
-}
-
-fn byte_text(text: &str, most: u32) -> Option<Vec<u8>> {
-    let mut bytes = Vec::new();
-    for piece in text.split('.') {
-        match piece.split_once('*') {
-            None => push_pairs(&mut bytes, piece.as_bytes())?,
-            Some((pair, count)) if pair.len() == 2 => {
-                push_pairs(&mut bytes, pair.as_bytes())?;
-                let count = number(count, 1..=most)? as usize;
-                bytes.resize(bytes.len() - 1 + count, *bytes.last()?);
-            }
-            Some(_) => return None,
-        }
-        if bytes.len() > most as usize {
-            return None;
-        }
-    }
-    Some(bytes)
-}
-
-fn parse_line(text: &str) -> Option<Line> {
-    let words: Vec<&str> = text.split(' ').collect();
-    Some(match words[..] {
-        ["lun", "0", "blocks", blocks] => Line::Lun { blocks: number(blocks, 1..=65_536)? },
-        ["port", "0", "a"] => Line::Port,
-        ["map", initiator, "0", "0", "0"] => Line::Map { initiator: number(initiator, 0..=15)? },
-        ["cmd", initiator, "0", "0", tag, "simple", cdb, ref data @ ..] if data.len() <= 1 => Line::Command(Command {
-            initiator: number(initiator, 0..=15)?,
-            tag: number(tag, 0..=u32::MAX)?,
-            cdb: byte_text(cdb, 32)?,
-            data: data.first().map_or(Some(Vec::new()), |text| byte_text(text, 131_072))?,
-        }),
-        ["step", "0", command, blocks] => {
-            Line::Step { number: number(command, 0..=u32::MAX)?, blocks: number(blocks, 1..=65_536)? }
-        }
-        ["drain", "0"] => Line::Drain,
-        ["sync"] => Line::Sync,
-        _ => return None,
-    })
-}
-
-impl Script {
-    /// Adds a line, and says whether it may stand behind those before it.
-    fn add(&mut self, line: Line) -> bool {
-        let sets_up = matches!(line, Line::Lun { .. } | Line::Port | Line::Map { .. });
-        let is_allowed = match &line {
-            _ if sets_up && self.acts => false,
-            Line::Lun { blocks } => self.blocks.replace(*blocks).is_none(),
-            Line::Port => !std::mem::replace(&mut self.port, true),
-            Line::Map { initiator } => self.port && self.blocks.is_some() && self.initiators.insert(*initiator),
-            Line::Command(command) => {
-                self.commands += 1;
-                let transfer = decode(command, self.blocks.unwrap_or(0) as usize);
-                self.operations += transfer.map_or(0, |transfer| transfer.operations());
-                self.initiators.contains(&command.initiator)
-            }
-            Line::Step { .. } | Line::Drain => self.blocks.is_some(),
-            Line::Sync => true,
-        };
-        self.acts |= !sets_up;
-        self.lines.push(line);
-        is_allowed && self.commands <= 64 && self.operations <= 262_144 && self.lines.len() <= 65_536
-    }
-}
-
-fn parse_script(text: &str) -> Option<Script> {
-    if text.len() > 8_388_608 || !text.is_empty() && !text.ends_with('\n') {
-        return None;
-    }
-    let mut script = Script::default();
-    let add = |line| parse_line(line).is_some_and(|line| script.add(line));
-    text.split_terminator('\n').all(add).then_some(script)
-}
-
-fn big_endian(bytes: &[u8]) -> usize {
-    bytes.iter().fold(0, |value, byte| value << 8 | *byte as usize)
-}
-
-/// What the bytes of a CDB say, with the data-out that came, for a disk of so many blocks.
-fn decode(command: &Command, blocks: usize) -> Result<Transfer, Refusal> {
-    use Phase::{Compare, Get, Look, Put, PutSame, PutSecondHalf, Zero};
-    let cdb = &command.cdb[..];
-    let size = match cdb[0] >> 5 {
-        0 => 6,
-        1 | 2 => 10,
-        4 => 16,
-        _ => 12,
+/// What the bytes of a CDB say, or the code of the sense data that refuse them.
+fn decode(cdb: &[u8]) -> Result<Op, u16> {
+    use Phase::{Compare, Get, Look, Put, PutSame, PutSecondHalf};
+    let size = match cdb[0] {
+        0x00 | 0x03 | 0x08 | 0x0a | 0x12 | 0x15 | 0x1a | 0x1b => 6,
+        0x25 | 0x28 | 0x2a | 0x2e | 0x2f | 0x35 | 0x41 | 0x42 | 0x55 | 0x5a | 0x5e | 0x5f => 10,
+        0xa0 | 0xa8 | 0xaa | 0xaf => 12,
+        0x88 | 0x89 | 0x8a | 0x8e | 0x8f | 0x91 | 0x93 | 0x9e => 16,
+        _ => return Err(INVALID_OPERATION),
     };
-    let phases: &[Phase] = match cdb[0] {
-        0x00 | 0x12 => &[],
-        0x08 | 0x28 | 0xa8 | 0x88 => &[Get],
-        0x0a | 0x2a | 0xaa | 0x8a => &[Put],
-        0x2e | 0x8e => &[Put, Look],
-        0x2f | 0xaf | 0x8f if cdb.len() > 1 && cdb[1] & 2 != 0 => &[Compare],
-        0x2f | 0xaf | 0x8f => &[Look],
-        0x89 => &[Compare, PutSecondHalf],
-        0x41 | 0x93 => &[PutSame],
-        0x42 => &[Zero],
-        _ => return Err(Refusal::Operation),
-    };
-    if cdb.len() != size || cdb[size - 1] & 4 != 0 {
-        return Err(Refusal::Field);
+    if cdb.len() != size || cdb[size - 1] & 0x04 != 0 {
+        return Err(INVALID_FIELD);
     }
+    let action = cdb[1] & 0x1f;
+    let two = |at: usize| big_endian(&cdb[at..at + 2]) as usize;
+    let four = |at: usize| big_endian(&cdb[at..at + 4]) as usize;
     let (first, count) = match (cdb[0], size) {
-        (0x00 | 0x12 | 0x42, _) => (0, 0),
-        (0x89, _) => (big_endian(&cdb[2..10]), cdb[13] as usize),
-        (_, 6) => (big_endian(&cdb[1..4]) & 0x1f_ffff, (cdb[4] as usize + 255) % 256 + 1),
+        (0x89, _) => (big_endian(&cdb[2..10]), cdb[13] as u64),
+        (_, 6) => (big_endian(&cdb[1..4]) & 0x1f_ffff, (cdb[4] as u64 + 255) % 256 + 1),
         (_, 10) => (big_endian(&cdb[2..6]), big_endian(&cdb[7..9])),
         (_, 12) => (big_endian(&cdb[2..6]), big_endian(&cdb[6..10])),
-        (_, _) => (big_endian(&cdb[2..10]), big_endian(&cdb[10..14])),
+        _ => (big_endian(&cdb[2..10]), big_endian(&cdb[10..14])),
     };
-    let (refused_bits, least, most) = match cdb[0] {
-        0x00 | 0x08 | 0x0a | 0x12 => (0, 0, 256),
-        0x2e | 0x8e => (0xe6, 0, 256),
-        0x2f | 0xaf | 0x8f => (0xe4, 0, 256),
-        0x89 => (0xe0, 0, 128),
-        0x41 | 0x93 => (0xf7, 1, 256),
-        0x42 => (0x01, 0, 0),
-        _ => (0xe0, 0, 256),
+    let require = |holds: bool| if holds { Ok(()) } else { Err(INVALID_FIELD) };
+    let transfer = |phases: &'static [Phase], refused_bits: u8, counts: RangeInclusive<u64>| {
+        require(cdb[1] & refused_bits == 0 && counts.contains(&count))?;
+        Ok(Op::Transfer { phases, first, count })
     };
-    if cdb[1] & refused_bits != 0 || !(least..=most).contains(&count) {
-        return Err(Refusal::Field);
-    }
-    let asked = match phases {
-        [Put, ..] | [Compare] => BLOCK * count,
-        [Compare, _] => 2 * BLOCK * count,
-        [PutSame] => BLOCK,
-        _ => 0,
-    };
-    let ranges = vec![(first, count)];
-    let mut transfer = Transfer { phases, ranges, asked, fault: None, data: Vec::new(), reports_attention: true };
     match cdb[0] {
+        0x00 => Ok(Op::TestUnitReady),
+        0x03 => Ok(Op::RequestSense { descriptor: cdb[1] & 1 != 0, allocation: cdb[4] as usize }),
         0x12 => {
-            transfer.data = inquiry_data(cdb).ok_or(Refusal::Field)?;
-            transfer.reports_attention = false;
+            let page = (cdb[1] & 1 != 0).then_some(cdb[2]);
+            require(page.map_or(cdb[2] == 0, |page| [0x00, 0x80, 0x83, 0xb0, 0xb2].contains(&page)))?;
+            Ok(Op::Inquiry { page, allocation: two(3) })
         }
-        0x42 => {
-            transfer.asked = big_endian(&cdb[7..9]);
-            let list = &command.data[..transfer.asked.min(command.data.len())];
-            match unmapped(list, blocks) {
-                Ok(ranges) => transfer.ranges = ranges,
-                Err(fault) => transfer.fault = Some(fault),
-            }
+        0x08 => transfer(&[Get], 0, 1..=256),
+        0x0a => transfer(&[Put], 0, 1..=256),
+        0x28 | 0xa8 | 0x88 => transfer(&[Get], 0xe0, 0..=256),
+        0x2a | 0xaa | 0x8a => transfer(&[Put], 0xe0, 0..=256),
+        0x2e | 0x8e => transfer(&[Put, Look], 0xe6, 0..=256),
+        0x2f | 0xaf | 0x8f if cdb[1] & 2 != 0 => transfer(&[Compare], 0xe4, 0..=256),
+        0x2f | 0xaf | 0x8f => transfer(&[Look], 0xe4, 0..=256),
+        0x89 => transfer(&[Compare, PutSecondHalf], 0xe0, 0..=128),
+        0x41 | 0x93 => transfer(&[PutSame], 0xf7, 1..=256),
+        0x42 => require(cdb[1] & 1 == 0).map(|()| Op::Unmap { list: two(7) }),
+        0x35 | 0x91 => Ok(Op::SynchronizeCache { first, count }),
+        0x25 => Ok(Op::ReadCapacity10),
+        0x9e => require(action == 0x10).map(|()| Op::ReadCapacity16 { allocation: four(10) }),
+        0x15 => require(cdb[1] & 1 == 0).map(|()| Op::ModeSelect { header: 4, list: cdb[4] as usize }),
+        0x55 => require(cdb[1] & 1 == 0).map(|()| Op::ModeSelect { header: 8, list: two(7) }),
+        0x1a | 0x5a => {
+            let (control, page) = (cdb[2] >> 6, cdb[2] & 0x3f);
+            require(matches!((page, cdb[3]), (0x08 | 0x0a | 0x3f, 0x00) | (0x3f, 0xff)))?;
+            let (header, allocation) = if size == 6 { (4, cdb[4] as usize) } else { (8, two(7)) };
+            Ok(Op::ModeSense { header, descriptor: cdb[1] & 8 == 0, control, page, allocation })
         }
-        _ => {}
+        0x1b => require(cdb[4] & 0xf2 == 0).map(|()| Op::StartStopUnit { start: cdb[4] & 1 != 0 }),
+        0x5e => require(action <= 3).map(|()| Op::ReserveIn { action, allocation: two(7) }),
+        0x5f => {
+            require(action <= 6)?;
+            require(!matches!(action, 1 | 2 | 4 | 5) || matches!(cdb[2], 1 | 3 | 5 | 6 | 7 | 8))?;
+            Ok(Op::ReserveOut { action, kind: cdb[2] & 0x0f, list: four(5) })
+        }
+        _ => {
+            require(cdb[2] <= 2)?;
+            Ok(Op::ReportLuns { select: cdb[2], allocation: four(6) })
+        }
     }
-    Ok(transfer)
 }
 
-/// The block descriptors of an UNMAP's list.
-fn unmapped(list: &[u8], blocks: usize) -> Result<Vec<(usize, usize)>, Refusal> {
+/// The first bytes of data-out, as many as a CDB asks for, or as there are.
+fn beginning(out: &[u8], length: usize) -> &[u8] {
+    &out[..length.min(out.len())]
+}
+
+fn is_inside(first: u64, count: u64, blocks: u32) -> bool {
+    first.checked_add(count).is_some_and(|end| end <= blocks as u64)
+}
+
+/// A range of blocks, its end being behind it.
+#[derive(Clone, Copy, PartialEq, Eq, PartialOrd, Ord)]
+struct Extent {
+    first: u32,
+    end: u32,
+}
+
+impl Extent {
+    fn count(&self) -> u32 {
+        self.end - self.first
+    }
+}
+
+/// The ranges of an UNMAP's list, in its order.
+fn unmapped(list: &[u8], blocks: u32) -> Result<Vec<Extent>, u16> {
     if list.is_empty() {
         return Ok(Vec::new());
     }
     if list.len() < 8 {
-        return Err(Refusal::ShortData);
+        return Err(LIST_LENGTH);
     }
-    let (data, length) = (big_endian(&list[..2]), big_endian(&list[2..4]));
-    if length > 1024 || data != length + 6 {
-        return Err(Refusal::ListField);
+    let (data, length) = (big_endian(&list[..2]), big_endian(&list[2..4]) as usize);
+    if length > 1024 || data != length as u64 + 6 {
+        return Err(INVALID_LIST_FIELD);
     }
-    let whole = &list[8..list.len().min(8 + length)];
-    let descriptors = whole.chunks_exact(16).map(|bytes| (big_endian(&bytes[..8]), big_endian(&bytes[8..12])));
-    let ranges: Vec<_> = descriptors.collect();
-    if ranges.iter().any(|(first, count)| first.saturating_add(*count) > blocks) {
-        return Err(Refusal::Range);
+    let descriptors = list[8..list.len().min(8 + length)].chunks_exact(16);
+    let mut extents = Vec::with_capacity(descriptors.len());
+    for descriptor in descriptors {
+        let (first, count) = (big_endian(&descriptor[..8]), big_endian(&descriptor[8..12]));
+        if !is_inside(first, count, blocks) {
+            return Err(OUT_OF_RANGE);
+        }
+        extents.push(Extent { first: first as u32, end: (first + count) as u32 });
     }
-    let mut sorted: Vec<_> = ranges.iter().filter(|(_, count)| *count > 0).collect();
-    sorted.sort();
-    if sorted.windows(2).any(|pair| pair[0].0 + pair[0].1 > pair[1].0) {
-        return Err(Refusal::ListField);
+    let sorted = sorted(&extents);
+    if sorted.windows(2).any(|pair| pair[0].end > pair[1].first) {
+        return Err(INVALID_LIST_FIELD);
     }
-    Ok(ranges)
+    Ok(extents)
 }
 
-const SERIAL: &[u8] = b"CTL-LUN-00000000";
-const STANDARD: &[u8] = b"\x00\x00\x06\x12\x1f\x00\x00\x02FREEBSD CTLDISK         0001";
-const LIMITS: [u8; 44] = [
-    1, 128, 0, 0, 0, 0, 1, 0, 0, 0, 0, 0, 0, 0, 0, 0, 0, 1, 0, 0, 0, 0, 0, 64, 0, 0, 0, 0, 0, 0, 0, 0, 0, 0, 0, 0, 0, 0,
-    1, 0, 0, 0, 0, 0,
-];
-
-/// The data of an INQUIRY, or None where its page isn't there.
-fn inquiry_data(cdb: &[u8]) -> Option<Vec<u8>> {
-    let page = |rest: &[u8]| [&[0, cdb[2], 0, rest.len() as u8], rest].concat();
-    let mut data = match (cdb[1] & 1, cdb[2]) {
-        (0, 0) => STANDARD.to_vec(),
-        (1, 0) => page(&[0x00, 0x80, 0x83, 0xb0, 0xb2]),
-        (1, 0x80) => page(SERIAL),
-        (1, 0x83) => page(&[b"\x02\x01\x00\x18FREEBSD ", SERIAL].concat()),
-        (1, 0xb0) => page(&[&LIMITS[..], &[0; 16]].concat()),
-        (1, 0xb2) => page(&[0x00, 0xc4, 0x02, 0x00]),
-        _ => return None,
-    };
-    data.truncate(big_endian(&cdb[3..5]));
-    Some(data)
+/// The extents that aren't empty, in rising order.
+fn sorted(extents: &[Extent]) -> Vec<Extent> {
+    let mut sorted: Vec<Extent> = extents.iter().copied().filter(|extent| extent.count() > 0).collect();
+    sorted.sort_unstable();
+    sorted
 }
 
-fn check(command: &Command, blocks: usize) -> Result<Transfer, Refusal> {
-    let transfer = decode(command, blocks)?;
-    if command.data.len() < transfer.asked {
-        Err(Refusal::ShortData)
-    } else if let Some(fault) = transfer.fault {
-        Err(fault)
-    } else if transfer.ranges.iter().any(|(first, count)| first.saturating_add(*count) > blocks) {
-        Err(Refusal::Range)
-    } else {
-        Ok(transfer)
+/// Whether two lists of extents, each in rising order and without overlap, share a block.
+fn share_a_block(some: &[Extent], others: &[Extent]) -> bool {
+    let (Some(some_last), Some(others_last)) = (some.last(), others.last()) else { return false };
+    if some_last.end <= others[0].first || others_last.end <= some[0].first {
+        return false;
+    }
+    let (mut one, mut other) = (0, 0);
+    while one < some.len() && other < others.len() {
+        if some[one].end <= others[other].first {
+            one += 1;
+        } else if others[other].end <= some[one].first {
+            other += 1;
+        } else {
+            return true;
+        }
+    }
+    false
+}
+
+impl Op {
+    fn index(&self) -> Index {
+        match self {
+            Op::TestUnitReady => Index::Tur,
+            Op::Inquiry { .. } | Op::ReportLuns { .. } => Index::Inq,
+            Op::RequestSense { .. } => Index::RqS,
+            Op::ReadCapacity10 | Op::ReadCapacity16 { .. } => Index::Cap,
+            Op::Transfer { .. } => if self.writes() { Index::Wr } else { Index::Rd },
+            Op::Unmap { .. } => Index::Un,
+            Op::SynchronizeCache { .. } => Index::Sy,
+            Op::ModeSense { .. } => Index::MSn,
+            Op::ModeSelect { .. } => Index::MSl,
+            Op::ReserveIn { .. } | Op::ReserveOut { .. } => Index::Res,
+            Op::StartStopUnit { .. } => Index::Sta,
+        }
+    }
+
+    /// It puts blocks.
+    fn writes(&self) -> bool {
+        match self {
+            Op::Transfer { phases, .. } => !matches!(phases, [Phase::Get] | [Phase::Look] | [Phase::Compare]),
+            op => matches!(op, Op::Unmap { .. }),
+        }
+    }
+
+    fn moves_blocks(&self) -> bool {
+        matches!(self, Op::Transfer { .. } | Op::Unmap { .. })
+    }
+
+    fn needs_started(&self) -> bool {
+        self.moves_blocks() || matches!(self, Op::TestUnitReady | Op::SynchronizeCache { .. })
+    }
+
+    fn reports_attention(&self) -> bool {
+        !matches!(self, Op::Inquiry { .. } | Op::ReportLuns { .. } | Op::RequestSense { .. })
+    }
+
+    /// The bytes of data-out that it asks for.
+    fn asked(&self) -> usize {
+        use Phase::{Compare, Put, PutSame};
+        match *self {
+            Op::Transfer { phases: [Put, ..] | [Compare], count, .. } => BLOCK * count as usize,
+            Op::Transfer { phases: [Compare, _], count, .. } => 2 * BLOCK * count as usize,
+            Op::Transfer { phases: [PutSame], .. } => BLOCK,
+            Op::Unmap { list } | Op::ModeSelect { list, .. } | Op::ReserveOut { list, .. } => list,
+            _ => 0,
+        }
+    }
+
+    /// The block operations that it asks for, whether it is refused later or not.
+    fn operations(&self, out: &[u8], blocks: u32) -> u64 {
+        match *self {
+            Op::Transfer { phases, count, .. } => phases.len() as u64 * count,
+            Op::Unmap { list } => unmapped(beginning(out, list), blocks)
+                .map_or(0, |extents| extents.iter().map(|extent| extent.count() as u64).sum()),
+            _ => 0,
+        }
+    }
+
+    /// The blocks of the pool that it needs for so many blocks.
+    fn need(&self, count: u32) -> u32 {
+        use Phase::{Compare, Get, Look, Put, PutSame};
+        match self {
+            Op::Transfer { phases: [Get] | [Put, ..], .. } => count,
+            Op::Transfer { phases: [Look], .. } | Op::Unmap { .. } => 1,
+            Op::Transfer { phases: [Compare], .. } => count + 1,
+            Op::Transfer { phases: [Compare, _], .. } => 2 * count + 1,
+            Op::Transfer { phases: [PutSame], .. } => 2,
+            _ => 0,
+        }
     }
 }
 
-impl Transfer {
-    fn blocks(&self) -> usize {
-        self.ranges.iter().map(|(_, count)| count).sum()
+/// The block operations of a command, phase after phase, or the code that its data-out or its blocks are refused with.
+struct Plan {
+    phases: &'static [Phase],
+    /// The blocks of each phase, in the order of the command.
+    extents: Vec<Extent>,
+    /// The same in rising order.
+    footprint: Vec<Extent>,
+    /// The blocks of each phase, counted.
+    blocks: usize,
+    need: u32,
+    refusal: Option<u16>,
+}
+
+impl Plan {
+    fn empty(refusal: Option<u16>) -> Plan {
+        Plan { phases: &[], extents: Vec::new(), footprint: Vec::new(), blocks: 0, need: 0, refusal }
+    }
+
+    fn of(op: &Op, out: &[u8], blocks: u32) -> Plan {
+        if out.len() < op.asked() {
+            return Plan::empty(Some(LIST_LENGTH));
+        }
+        let (phases, extents): (&[Phase], _) = match *op {
+            Op::Transfer { first, count, .. } | Op::SynchronizeCache { first, count }
+                if !is_inside(first, count, blocks) =>
+            {
+                return Plan::empty(Some(OUT_OF_RANGE));
+            }
+            Op::Transfer { phases, first, count } => {
+                (phases, vec![Extent { first: first as u32, end: (first + count) as u32 }])
+            }
+            Op::Unmap { list } => match unmapped(&out[..list], blocks) {
+                Ok(extents) => (&[Phase::Zero], extents),
+                Err(fault) => return Plan::empty(Some(fault)),
+            },
+            Op::ModeSelect { header, list } => return Plan::empty(mode_list(&out[..list], header).err()),
+            Op::ReserveOut { list, .. } => return Plan::empty(reservation_list(&out[..list]).err()),
+            _ => return Plan::empty(None),
+        };
+        let footprint = sorted(&extents);
+        let blocks: u32 = footprint.iter().map(Extent::count).sum();
+        if blocks == 0 {
+            return Plan::empty(None);
+        }
+        Plan { phases, extents, footprint, blocks: blocks as usize, need: op.need(blocks), refusal: None }
     }
 
     fn operations(&self) -> usize {
-        self.phases.len() * self.blocks()
+        self.phases.len() * self.blocks
     }
 
-    fn writes(&self) -> bool {
-        use Phase::{Put, PutSame, PutSecondHalf, Zero};
-        self.phases.iter().any(|phase| matches!(phase, Put | PutSecondHalf | PutSame | Zero))
-    }
-
-    /// The block at a place among its own, and how many of its range there are from there on.
+    /// The block at a place of a phase, and how many of its range there are from there on.
     fn at(&self, mut place: usize) -> (usize, usize) {
-        for (first, count) in &self.ranges {
-            if place < *count {
-                return (first + place, count - place);
+        for extent in &self.extents {
+            let count = extent.count() as usize;
+            if place < count {
+                return (extent.first as usize + place, count - place);
             }
             place -= count;
         }
@@ -338,37 +576,483 @@ impl Transfer {
     }
 }
 
-impl Task {
-    /// Whether they have a block in common that one of them writes.
-    fn conflicts(&self, other: &Task) -> bool {
-        let (Ok(one), Ok(two)) = (&self.transfer, &other.transfer) else { return false };
-        let meets = |a: &(usize, usize), b: &(usize, usize)| a.0.max(b.0) < (a.0 + a.1).min(b.0 + b.1);
-        let moves = !one.phases.is_empty() && !two.phases.is_empty();
-        moves && (one.writes() || two.writes()) && one.ranges.iter().any(|a| two.ranges.iter().any(|b| meets(a, b)))
+// Mode pages
+
+#[derive(Clone, Copy)]
+struct Pages {
+    descriptor_sense: bool,
+    unrestricted: bool,
+    write_protect: bool,
+    tells_aborts: bool,
+    write_cache: bool,
+}
+
+const DEFAULT_PAGES: Pages = Pages {
+    descriptor_sense: false,
+    unrestricted: false,
+    write_protect: false,
+    tells_aborts: false,
+    write_cache: true,
+};
+const CHANGEABLE_PAGES: Pages = Pages {
+    descriptor_sense: true,
+    unrestricted: true,
+    write_protect: true,
+    tells_aborts: true,
+    write_cache: true,
+};
+
+impl Pages {
+    fn caching(&self) -> Vec<u8> {
+        let mut page = vec![0; 20];
+        page[..3].copy_from_slice(&[0x08, 0x12, (self.write_cache as u8) << 2]);
+        page
     }
 
-    /// Whether it ends with a unit attention of its initiator, if there is one.
-    fn reports_attention(&self) -> bool {
-        match &self.transfer {
-            Err(Refusal::Operation | Refusal::Field) => false,
-            Err(_) => true,
-            Ok(transfer) => transfer.reports_attention,
+    fn control(&self) -> Vec<u8> {
+        let mut page = vec![0; 12];
+        let descriptor_sense = (self.descriptor_sense as u8) << 2;
+        let modifier = (self.unrestricted as u8) << 4;
+        let (write_protect, tells_aborts) = ((self.write_protect as u8) << 3, (self.tells_aborts as u8) << 6);
+        page[..6].copy_from_slice(&[0x0a, 0x0a, descriptor_sense, modifier, write_protect, tells_aborts]);
+        page
+    }
+
+    fn page(&self, code: u8) -> Vec<u8> {
+        match code {
+            0x08 => self.caching(),
+            0x0a => self.control(),
+            _ => [self.caching(), self.control()].concat(),
         }
     }
 
-    /// Moves on by at most so many blocks: by how many, and the offset of a byte of the data-out that differs.
+    /// The pages with those of a list in place of them, or None where a bit would change that can't be changed.
+    fn selected(mut self, list: &[&[u8]]) -> Option<Pages> {
+        let current = self;
+        for page in list {
+            let code = page[0] & 0x3f;
+            let (old, mask) = (current.page(code), CHANGEABLE_PAGES.page(code));
+            let changes_others = |at: usize| (page[at] ^ old[at]) & !mask[at] != 0;
+            if (2..page.len()).any(changes_others) {
+                return None;
+            }
+            if code == 0x08 {
+                self.write_cache = page[2] & 0x04 != 0;
+            } else {
+                self.descriptor_sense = page[2] & 0x04 != 0;
+                self.unrestricted = page[3] & 0x10 != 0;
+                self.write_protect = page[4] & 0x08 != 0;
+                self.tells_aborts = page[5] & 0x40 != 0;
+            }
+        }
+        Some(self)
+    }
+}
+
+/// The pages of a MODE SELECT's list, or the code of its first fault.
+fn mode_list(list: &[u8], header: usize) -> Result<Vec<&[u8]>, u16> {
+    let mut pages: Vec<&[u8]> = Vec::new();
+    if list.is_empty() {
+        return Ok(pages);
+    }
+    if list.len() < header {
+        return Err(LIST_LENGTH);
+    }
+    let descriptor = if header == 4 { list[3] as u64 } else { big_endian(&list[6..8]) };
+    let mut rest = &list[header..];
+    match descriptor {
+        0 => {}
+        8 if rest.len() < 8 => return Err(LIST_LENGTH),
+        8 if big_endian(&rest[5..8]) == BLOCK as u64 => rest = &rest[8..],
+        _ => return Err(INVALID_LIST_FIELD),
+    }
+    while let Some(first) = rest.first() {
+        let code = first & 0x7f;
+        let size = match code {
+            0x08 => 20,
+            0x0a => 12,
+            _ => return Err(INVALID_LIST_FIELD),
+        };
+        if pages.iter().any(|page| page[0] & 0x7f == code) {
+            return Err(INVALID_LIST_FIELD);
+        }
+        if *rest.get(1).ok_or(LIST_LENGTH)? as usize != size - 2 {
+            return Err(INVALID_LIST_FIELD);
+        }
+        if rest.len() < size {
+            return Err(LIST_LENGTH);
+        }
+        pages.push(&rest[..size]);
+        rest = &rest[size..];
+    }
+    Ok(pages)
+}
+
+// Persistent reservations
+
+struct Registrant {
+    initiator: u8,
+    key: u64,
+}
+
+#[derive(Default)]
+struct Reservations {
+    generation: u32,
+    registrants: Vec<Registrant>,
+    /// The type of the reservation and the nexus that made it.
+    held: Option<(u8, u8)>,
+}
+
+/// What an accepted PERSISTENT RESERVE OUT did to others: whom it removed, and whom it tells which code.
+#[derive(Default)]
+struct Reserved {
+    removed: Vec<u8>,
+    told: Vec<(u8, u16)>,
+}
+
+enum NotReserved {
+    Conflict,
+    Code(u16),
+}
+
+const RESERVATIONS_PREEMPTED: u16 = 0x2a03;
+const RESERVATIONS_RELEASED: u16 = 0x2a04;
+const REGISTRATIONS_PREEMPTED: u16 = 0x2a05;
+
+/// Types whose holders are all registrants.
+fn all_hold(kind: u8) -> bool {
+    kind >= 7
+}
+
+fn reservation_list(list: &[u8]) -> Result<(u64, u64), u16> {
+    if list.len() != 24 {
+        Err(LIST_LENGTH)
+    } else if list[20] != 0 {
+        Err(INVALID_LIST_FIELD)
+    } else {
+        Ok((big_endian(&list[..8]), big_endian(&list[8..16])))
+    }
+}
+
+impl Reservations {
+    fn key(&self, initiator: u8) -> Option<u64> {
+        self.registrants.iter().find(|one| one.initiator == initiator).map(|one| one.key)
+    }
+
+    fn holds(&self, initiator: u8) -> bool {
+        self.held.is_some_and(|(kind, holder)| {
+            if all_hold(kind) { self.key(initiator).is_some() } else { holder == initiator }
+        })
+    }
+
+    fn others(&self, initiator: u8) -> Vec<u8> {
+        self.registrants.iter().map(|one| one.initiator).filter(|other| *other != initiator).collect()
+    }
+
+    fn others_told(&self, initiator: u8, code: u16) -> Vec<(u8, u16)> {
+        self.others(initiator).into_iter().map(|other| (other, code)).collect()
+    }
+
+    /// Whether a command of this nexus is let through.
+    fn allows(&self, initiator: u8, op: &Op) -> bool {
+        let Some((kind, _)) = self.held else { return true };
+        let is_registered = self.key(initiator).is_some();
+        match op {
+            Op::TestUnitReady
+            | Op::Inquiry { .. }
+            | Op::RequestSense { .. }
+            | Op::ReportLuns { .. }
+            | Op::ReadCapacity10
+            | Op::ReadCapacity16 { .. }
+            | Op::ReserveIn { .. }
+            | Op::ReserveOut { .. } => true,
+            Op::ModeSense { .. } => matches!(kind, 1 | 5 | 7) || self.passes(kind, initiator, is_registered),
+            Op::Transfer { .. } if !op.writes() => {
+                matches!(kind, 1 | 5 | 7) || self.passes(kind, initiator, is_registered)
+            }
+            _ => self.passes(kind, initiator, is_registered),
+        }
+    }
+
+    fn passes(&self, kind: u8, initiator: u8, is_registered: bool) -> bool {
+        if matches!(kind, 1 | 3) { self.holds(initiator) } else { is_registered }
+    }
+
+    fn out(&mut self, initiator: u8, action: u8, kind: u8, keys: (u64, u64)) -> Result<Reserved, NotReserved> {
+        let (key, service_key) = keys;
+        let own = self.key(initiator);
+        let has_own_key = own == Some(key);
+        match action {
+            0 if own.is_some() && !has_own_key || own.is_none() && key != 0 => Err(NotReserved::Conflict),
+            0 | 6 => self.register(initiator, service_key),
+            _ if !has_own_key => Err(NotReserved::Conflict),
+            1 => match self.held {
+                None => {
+                    self.held = Some((kind, initiator));
+                    Ok(Reserved::default())
+                }
+                Some((held, _)) if held == kind && self.holds(initiator) => Ok(Reserved::default()),
+                Some(_) => Err(NotReserved::Conflict),
+            },
+            2 => match self.held {
+                Some((held, _)) if self.holds(initiator) => {
+                    if held != kind {
+                        return Err(NotReserved::Code(0x2604));
+                    }
+                    self.held = None;
+                    let told = if held >= 5 { self.others_told(initiator, RESERVATIONS_RELEASED) } else { Vec::new() };
+                    Ok(Reserved { removed: Vec::new(), told })
+                }
+                _ => Ok(Reserved::default()),
+            },
+            3 => {
+                let told = self.others_told(initiator, RESERVATIONS_PREEMPTED);
+                self.held = None;
+                self.registrants.clear();
+                self.generation = self.generation.wrapping_add(1);
+                Ok(Reserved { removed: Vec::new(), told })
+            }
+            _ => self.preempt(initiator, kind, service_key),
+        }
+    }
+
+    fn register(&mut self, initiator: u8, service_key: u64) -> Result<Reserved, NotReserved> {
+        let mut reserved = Reserved::default();
+        match self.registrants.iter().position(|one| one.initiator == initiator) {
+            None if service_key == 0 => return Ok(reserved),
+            None if self.registrants.len() == MOST_REGISTRANTS => return Err(NotReserved::Code(0x5504)),
+            None => self.registrants.push(Registrant { initiator, key: service_key }),
+            Some(place) if service_key != 0 => self.registrants[place].key = service_key,
+            Some(place) => {
+                self.registrants.remove(place);
+                match self.held {
+                    Some((kind, _)) if all_hold(kind) => {
+                        if self.registrants.is_empty() {
+                            self.held = None;
+                        }
+                    }
+                    Some((kind, holder)) if holder == initiator => {
+                        self.held = None;
+                        if kind >= 5 {
+                            reserved.told = self.others_told(initiator, RESERVATIONS_RELEASED);
+                        }
+                    }
+                    _ => {}
+                }
+            }
+        }
+        self.generation = self.generation.wrapping_add(1);
+        Ok(reserved)
+    }
+
+    fn preempt(&mut self, initiator: u8, kind: u8, service_key: u64) -> Result<Reserved, NotReserved> {
+        let takes_from_all = service_key == 0 && self.held.is_some_and(|(held, _)| all_hold(held));
+        if service_key == 0 && !takes_from_all {
+            return Err(NotReserved::Code(INVALID_LIST_FIELD));
+        }
+        let is_named = |one: &Registrant| takes_from_all || one.key == service_key;
+        if !self.registrants.iter().any(is_named) {
+            return Err(NotReserved::Conflict);
+        }
+        let names_holder = |holder: u8| self.registrants.iter().any(|one| one.initiator == holder && is_named(one));
+        let takes_from_one = self.held.is_some_and(|(held, holder)| !all_hold(held) && names_holder(holder));
+        let takes_over = takes_from_all || takes_from_one;
+        let is_removed = |one: &Registrant| one.initiator != initiator && is_named(one);
+        let removed: Vec<u8> =
+            self.registrants.iter().filter(|one| is_removed(one)).map(|one| one.initiator).collect();
+        self.registrants.retain(|one| !is_removed(one));
+        let mut told: Vec<_> = removed.iter().map(|other| (*other, REGISTRATIONS_PREEMPTED)).collect();
+        if takes_over {
+            if self.held.is_some_and(|(held, _)| held != kind) {
+                told.extend(self.others_told(initiator, RESERVATIONS_RELEASED));
+            }
+            self.held = Some((kind, initiator));
+        }
+        self.generation = self.generation.wrapping_add(1);
+        Ok(Reserved { removed, told })
+    }
+
+    /// The data of a PERSISTENT RESERVE IN.
+    fn data(&self, action: u8) -> Vec<u8> {
+        let mut list = Vec::new();
+        match action {
+            0 => self.registrants.iter().for_each(|one| list.extend(one.key.to_be_bytes())),
+            1 => {
+                if let Some((kind, holder)) = self.held {
+                    let key = if all_hold(kind) { 0 } else { self.key(holder).unwrap_or(0) };
+                    list.extend(key.to_be_bytes());
+                    list.extend([0, 0, 0, 0, 0, kind, 0, 0]);
+                }
+            }
+            2 => return vec![0x00, 0x08, 0x00, 0x80, 0xea, 0x01, 0x00, 0x00],
+            _ => {
+                for one in &self.registrants {
+                    let mut status = [0; 48];
+                    status[..8].copy_from_slice(&one.key.to_be_bytes());
+                    if let Some((kind, _)) = self.held.filter(|_| self.holds(one.initiator)) {
+                        (status[12], status[13]) = (1, kind);
+                    }
+                    (status[19], status[23], status[24], status[35]) = (1, 0x18, 0x0f, one.initiator);
+                    list.extend(status);
+                }
+            }
+        }
+        [&self.generation.to_be_bytes()[..], &(list.len() as u32).to_be_bytes()[..], &list[..]].concat()
+    }
+}
+
+// Data of the unit
+
+const SERIAL: &[u8] = b"CTL-LUN-00000000";
+const STANDARD: &[u8] = b"\x00\x00\x06\x12\x1f\x00\x00\x02FREEBSD CTLDISK         0001";
+
+fn inquiry_data(page: Option<u8>) -> Vec<u8> {
+    let Some(code) = page else { return STANDARD.to_vec() };
+    let rest = match code {
+        0x00 => vec![0x00, 0x80, 0x83, 0xb0, 0xb2],
+        0x80 => SERIAL.to_vec(),
+        0x83 => [b"\x02\x01\x00\x18FREEBSD ", SERIAL].concat(),
+        0xb0 => {
+            let mut limits = vec![0; 60];
+            (limits[0], limits[1]) = (1, 128);
+            limits[4..8].copy_from_slice(&256u32.to_be_bytes());
+            limits[16..20].copy_from_slice(&65_536u32.to_be_bytes());
+            limits[20..24].copy_from_slice(&64u32.to_be_bytes());
+            limits[32..40].copy_from_slice(&256u64.to_be_bytes());
+            limits
+        }
+        _ => vec![0x00, 0xc4, 0x02, 0x00],
+    };
+    [&[0, code, 0, rest.len() as u8], &rest[..]].concat()
+}
+
+fn cut_to(mut data: Vec<u8>, allocation: usize) -> Vec<u8> {
+    data.truncate(allocation);
+    data
+}
+
+// The unit
+
+#[derive(Clone, Copy)]
+struct Sense {
+    key: u8,
+    code: u16,
+    information: Option<u32>,
+}
+
+impl Sense {
+    fn bytes(&self, descriptor: bool) -> Vec<u8> {
+        let (code, qualifier) = ((self.code >> 8) as u8, self.code as u8);
+        if descriptor {
+            let mut bytes = vec![0x72, self.key, code, qualifier, 0, 0, 0, 0];
+            if let Some(information) = self.information {
+                bytes[7] = 12;
+                bytes.extend([0x00, 0x0a, 0x80, 0x00, 0, 0, 0, 0]);
+                bytes.extend(information.to_be_bytes());
+            }
+            bytes
+        } else {
+            let mut bytes = vec![0; 18];
+            bytes[0] = if self.information.is_some() { 0xf0 } else { 0x70 };
+            bytes[2] = self.key;
+            bytes[3..7].copy_from_slice(&self.information.unwrap_or(0).to_be_bytes());
+            bytes[7] = 10;
+            (bytes[12], bytes[13]) = (code, qualifier);
+            bytes
+        }
+    }
+}
+
+enum Answer {
+    Good(Vec<u8>),
+    Check(Sense),
+    Busy,
+    Conflict,
+    Full,
+}
+
+fn check(key: u8, code: u16) -> Answer {
+    Answer::Check(Sense { key, code, information: None })
+}
+
+/// A command in the task set.
+struct Task {
+    number: u32,
+    initiator: u8,
+    tag: u32,
+    attribute: Attribute,
+    index: Index,
+    op: Result<Op, u16>,
+    out: Vec<u8>,
+    plan: Plan,
+    has_begun: bool,
+    /// The number of one that it waits for. One that hasn't begun and waits for none is ready.
+    waits_for: Option<u32>,
+    done: usize,
+    got: Vec<u8>,
+}
+
+/// The codes of unit attention conditions, in the order in which they are told.
+const ATTENTIONS: [u16; 9] = [0x2900, POWER_ON, 0x2907, MODE_CHANGED, 0x2a03, 0x2a04, 0x2a05, 0x2a06, CLEARED];
+const POWER_ON: u16 = 0x2901;
+const MODE_CHANGED: u16 = 0x2a01;
+const CLEARED: u16 = 0x2f00;
+
+struct Unit {
+    disk: Vec<[u8; BLOCK]>,
+    depth: usize,
+    free: u32,
+    /// In queue order.
+    queue: Vec<Box<Task>>,
+    arrived: u32,
+    visible: Vec<bool>,
+    attentions: [[bool; ATTENTIONS.len()]; INITIATORS],
+    pages: Pages,
+    is_started: bool,
+    reservations: Reservations,
+    report: Vec<u8>,
+}
+
+impl Task {
+    fn is_ready(&self) -> bool {
+        !self.has_begun && self.waits_for.is_none()
+    }
+
+    /// Whether it makes a waiting command wait.
+    fn holds_up(&self, waiting: &Task, is_ahead: bool, is_unrestricted: bool) -> bool {
+        let cell = CONFLICTS[self.index as usize][waiting.index as usize];
+        if cell == b'K' {
+            return false;
+        }
+        if waiting.attribute == Attribute::Head || !is_ahead {
+            return self.has_begun && self.conflicts(waiting, cell, is_unrestricted);
+        }
+        waiting.attribute == Attribute::Ordered
+            || self.attribute != Attribute::Simple
+            || self.conflicts(waiting, cell, is_unrestricted)
+    }
+
+    fn conflicts(&self, other: &Task, cell: u8, is_unrestricted: bool) -> bool {
+        match cell {
+            b'B' => true,
+            b'b' => !is_unrestricted,
+            b'X' => share_a_block(&self.plan.footprint, &other.plan.footprint),
+            b'x' => !is_unrestricted && share_a_block(&self.plan.footprint, &other.plan.footprint),
+            _ => false,
+        }
+    }
+
+    /// Moves on by at most so many blocks: by how many, and the offset of the first byte of data-out that differs.
     fn move_on(&mut self, disk: &mut [[u8; BLOCK]], most: usize) -> (usize, Option<usize>) {
-        let Ok(transfer) = &self.transfer else { return (0, None) };
-        self.got.extend_from_slice(&transfer.data);
-        let (blocks, out) = (transfer.blocks(), &self.command.data);
-        let end = transfer.operations().min(self.done.saturating_add(most));
+        let (blocks, out) = (self.plan.blocks, &self.out);
         let begun_at = self.done;
+        let end = self.plan.operations().min(begun_at + most);
         while self.done < end {
             let place = self.done % blocks;
-            let (first, left) = transfer.at(place);
+            let (first, left) = self.plan.at(place);
             let count = left.min(end - self.done);
             let here = &mut disk[first..first + count];
-            match transfer.phases[self.done / blocks] {
+            match self.plan.phases[self.done / blocks] {
                 Phase::Get => self.got.extend_from_slice(here.as_flattened()),
                 Phase::Look => {}
                 Phase::Put => here.as_flattened_mut().copy_from_slice(&out[BLOCK * place..][..BLOCK * count]),
@@ -392,95 +1076,341 @@ impl Task {
 }
 
 impl Unit {
-    fn arrive(&mut self, at: usize, command: Command) {
-        self.arrived += 1;
-        let number = self.arrived;
-        let nexus = (command.initiator, command.tag);
-        writeln!(self.report, "came {number} a {at}").unwrap();
-        if self.tasks.iter().any(|task| (task.command.initiator, task.command.tag) == nexus) {
-            writeln!(self.report, "turned {number} {}", check_condition(0x0b, 0x4e00)).unwrap();
-        } else {
-            writeln!(self.report, "in {number}").unwrap();
-            let transfer = check(&command, self.disk.len());
-            self.tasks.push(Task { number, command, transfer, begun: false, done: 0, got: Vec::new() });
+    fn open(blocks: u32, depth: usize, pool: u32, visible: &HashSet<u8>) -> Unit {
+        let mut attentions = [[false; ATTENTIONS.len()]; INITIATORS];
+        let power_on = ATTENTIONS.iter().position(|code| *code == POWER_ON).unwrap();
+        attentions.iter_mut().for_each(|codes| codes[power_on] = true);
+        Unit {
+            disk: vec![[0; BLOCK]; blocks as usize],
+            depth,
+            free: pool,
+            queue: Vec::with_capacity(depth),
+            arrived: 0,
+            visible: (0..INITIATORS as u8).map(|initiator| visible.contains(&initiator)).collect(),
+            attentions,
+            pages: DEFAULT_PAGES,
+            is_started: true,
+            reservations: Reservations::default(),
+            report: b"report 1\nlun 0\n".to_vec(),
         }
     }
 
+    fn raise(&mut self, initiator: u8, code: u16) {
+        let place = ATTENTIONS.iter().position(|kept| *kept == code).unwrap();
+        self.attentions[initiator as usize][place] = true;
+    }
+
+    fn take_attention(&mut self, initiator: u8) -> Option<u16> {
+        let codes = &mut self.attentions[initiator as usize];
+        let place = codes.iter().position(|stands| *stands)?;
+        codes[place] = false;
+        Some(ATTENTIONS[place])
+    }
+
+    fn arrive(&mut self, line: usize, command: Command) {
+        self.arrived += 1;
+        let number = self.arrived;
+        writeln!(self.report, "came {number} a {line}").unwrap();
+        let Command { initiator, tag, attribute, op, out } = command;
+        let out = out.unwrap_or_default();
+        let is_live = self.queue.iter().any(|task| task.initiator == initiator && task.tag == tag);
+        if is_live || self.queue.len() == self.depth {
+            let answer = if is_live { check(0x0b, 0x4e00) } else { Answer::Full };
+            return self.answer("turned", number, answer);
+        }
+        let blocks = self.disk.len() as u32;
+        let plan = op.as_ref().map_or_else(|_| Plan::empty(None), |op| Plan::of(op, &out, blocks));
+        if self.free < plan.need {
+            return self.answer("turned", number, Answer::Busy);
+        }
+        self.free -= plan.need;
+        writeln!(self.report, "in {number}").unwrap();
+        let index = op.as_ref().map_or(Index::Inq, Op::index);
+        self.enter(Box::new(Task {
+            number,
+            initiator,
+            tag,
+            attribute,
+            index,
+            op,
+            out,
+            plan,
+            has_begun: false,
+            waits_for: None,
+            done: 0,
+            got: Vec::new(),
+        }));
+    }
+
+    fn enter(&mut self, task: Box<Task>) {
+        let number = task.number;
+        let is_head = task.attribute == Attribute::Head;
+        let first_waiting = self.queue.iter().position(|task| !task.has_begun);
+        let place = first_waiting.filter(|_| is_head).unwrap_or(self.queue.len());
+        self.queue.insert(place, task);
+        self.find_blocker(place);
+        for behind in place + 1..self.queue.len() {
+            let waiting = &self.queue[behind];
+            if waiting.is_ready() && self.queue[place].holds_up(waiting, true, self.pages.unrestricted) {
+                self.queue[behind].waits_for = Some(number);
+            }
+        }
+    }
+
+    /// Finds the first command that one waits for, if there is one.
+    fn find_blocker(&mut self, place: usize) {
+        let waiting = &self.queue[place];
+        let holds_up = |other: usize| {
+            other != place && self.queue[other].holds_up(waiting, other < place, self.pages.unrestricted)
+        };
+        let blocker = (0..self.queue.len()).find(|other| holds_up(*other));
+        self.queue[place].waits_for = blocker.map(|other| self.queue[other].number);
+    }
+
     fn step(&mut self, number: u32, blocks: usize) {
-        let place = self.tasks.iter().position(|task| task.number == number);
-        if let Some(place) = place.filter(|place| self.tasks[*place].begun || self.is_ready(*place)) {
+        let place = self.queue.iter().position(|task| task.number == number);
+        if let Some(place) = place.filter(|place| self.queue[*place].has_begun || self.queue[*place].is_ready()) {
             self.move_task(place, blocks);
         }
     }
 
     fn drain(&mut self) {
         while let Some(place) = self.next() {
-            self.move_task(place, 65_536);
+            self.move_task(place, MOST_STEP as usize);
         }
     }
 
-    /// The first task that is ready, or else the first that has begun.
+    /// The first command that is ready, or else the first that has begun.
     fn next(&self) -> Option<usize> {
-        let ready = (0..self.tasks.len()).find(|place| self.is_ready(*place));
-        ready.or_else(|| self.tasks.iter().position(|task| task.begun))
-    }
-
-    fn is_ready(&self, place: usize) -> bool {
-        let task = &self.tasks[place];
-        !task.begun && !self.tasks[..place].iter().any(|earlier| earlier.conflicts(task))
+        let ready = self.queue.iter().position(|task| task.is_ready());
+        ready.or_else(|| self.queue.iter().position(|task| task.has_begun))
     }
 
     fn move_task(&mut self, place: usize, blocks: usize) {
-        let task = &mut self.tasks[place];
-        let number = task.number;
-        if !task.begun && task.reports_attention() && self.told.insert(task.command.initiator) {
-            task.transfer = Err(Refusal::PowerOn);
+        let mut begins = false;
+        if !self.queue[place].has_begun {
+            if let Some(refusal) = self.refusal(place) {
+                return self.end(place, refusal);
+            }
+            if self.queue[place].plan.operations() == 0 {
+                return self.perform(place);
+            }
+            let task = &mut self.queue[place];
+            task.has_begun = true;
+            begins = true;
+            writeln!(self.report, "begun {}", task.number).unwrap();
         }
-        match &task.transfer {
-            Err(refusal) => writeln!(self.report, "ended {number} {}", refusal.sense()).unwrap(),
-            Ok(transfer) => {
-                let operations = transfer.operations();
-                if !task.begun && operations > 0 {
-                    writeln!(self.report, "begun {number}").unwrap();
-                }
-                task.begun = true;
-                let (count, difference) = task.move_on(&mut self.disk, blocks);
-                if count > 0 {
-                    writeln!(self.report, "moved {number} {count}").unwrap();
-                }
-                if let Some(offset) = difference {
-                    let sense = format!("f0000e{offset:08x}0a000000001d0000000000");
-                    writeln!(self.report, "ended {number} CHECK CONDITION sense {sense}").unwrap();
-                } else if task.done < operations {
-                    return;
-                } else {
-                    push_good(&mut self.report, task);
+        let task = &mut self.queue[place];
+        let (count, difference) = task.move_on(&mut self.disk, blocks);
+        let is_done = task.done == task.plan.operations();
+        writeln!(self.report, "moved {} {count}", task.number).unwrap();
+        if let Some(offset) = difference {
+            let sense = Sense { key: 0x0e, code: 0x1d00, information: Some(offset as u32) };
+            self.end(place, Answer::Check(sense));
+        } else if is_done {
+            let got = std::mem::take(&mut self.queue[place].got);
+            self.end(place, Answer::Good(got));
+        } else if begins {
+            self.hold_up_others(place);
+        }
+    }
+
+    /// Has those wait that were ready beside a command before it began: what is ahead of it, or HEAD OF QUEUE.
+    fn hold_up_others(&mut self, place: usize) {
+        let number = self.queue[place].number;
+        for other in 0..self.queue.len() {
+            let waiting = &self.queue[other];
+            if waiting.is_ready()
+                && (other < place || waiting.attribute == Attribute::Head)
+                && self.queue[place].holds_up(waiting, place < other, self.pages.unrestricted)
+            {
+                self.queue[other].waits_for = Some(number);
+            }
+        }
+    }
+
+    /// Takes a command out of the queue, and answers it.
+    fn end(&mut self, place: usize, answer: Answer) {
+        let task = self.queue.remove(place);
+        self.free += task.plan.need;
+        self.answer("ended", task.number, answer);
+        for other in 0..self.queue.len() {
+            if self.queue[other].waits_for == Some(task.number) {
+                self.find_blocker(other);
+            }
+        }
+    }
+
+    /// The first refusal of a command that would begin; an attention that is told is gone.
+    fn refusal(&mut self, place: usize) -> Option<Answer> {
+        let initiator = self.queue[place].initiator;
+        let op = match self.queue[place].op {
+            Err(code) => return Some(check(5, code)),
+            Ok(op) => op,
+        };
+        if op.reports_attention() {
+            if let Some(code) = self.take_attention(initiator) {
+                return Some(check(6, code));
+            }
+        }
+        let plan = &self.queue[place].plan;
+        if !self.reservations.allows(initiator, &op) {
+            Some(Answer::Conflict)
+        } else if op.needs_started() && !self.is_started {
+            Some(check(2, 0x0402))
+        } else if matches!(op, Op::ModeSense { control: 3, .. }) {
+            Some(check(5, 0x3900))
+        } else if let Some(code) = plan.refusal {
+            Some(check(5, code))
+        } else if op.writes() && self.pages.write_protect {
+            Some(check(7, 0x2700))
+        } else {
+            None
+        }
+    }
+
+    /// Does at once what a command does that moves no blocks.
+    fn perform(&mut self, place: usize) {
+        let task = &self.queue[place];
+        let (initiator, Ok(op)) = (task.initiator, task.op) else { return };
+        let data = match op {
+            Op::RequestSense { descriptor, allocation } => {
+                let attention = self.take_attention(initiator);
+                let (key, code) = attention.map_or((0, 0), |code| (6, code));
+                cut_to(Sense { key, code, information: None }.bytes(descriptor), allocation)
+            }
+            Op::Inquiry { page, allocation } => cut_to(inquiry_data(page), allocation),
+            Op::ReportLuns { select, allocation } => {
+                let count = (select != 1 && self.visible[initiator as usize]) as u8;
+                let mut data = vec![0, 0, 0, 8 * count, 0, 0, 0, 0];
+                data.resize(8 + 8 * count as usize, 0);
+                cut_to(data, allocation)
+            }
+            Op::ReadCapacity10 => [self.disk.len() as u32 - 1, BLOCK as u32].map(u32::to_be_bytes).concat(),
+            Op::ReadCapacity16 { allocation } => {
+                let mut data = vec![0; 32];
+                data[..8].copy_from_slice(&(self.disk.len() as u64 - 1).to_be_bytes());
+                data[8..12].copy_from_slice(&(BLOCK as u32).to_be_bytes());
+                data[14] = 0xc0;
+                cut_to(data, allocation)
+            }
+            Op::ModeSense { header, descriptor, control, page, allocation } => {
+                cut_to(self.mode_data(header, descriptor, control, page), allocation)
+            }
+            Op::ReserveIn { action, allocation } => cut_to(self.reservations.data(action), allocation),
+            Op::StartStopUnit { start } => {
+                self.is_started = start;
+                Vec::new()
+            }
+            Op::ModeSelect { header, list } => return self.select_mode(place, header, list),
+            Op::ReserveOut { action, kind, list } => return self.reserve(place, action, kind, list),
+            _ => Vec::new(),
+        };
+        self.end(place, Answer::Good(data));
+    }
+
+    fn mode_data(&self, header: usize, descriptor: bool, control: u8, page: u8) -> Vec<u8> {
+        let mut rest = Vec::new();
+        if descriptor {
+            rest.extend((self.disk.len() as u32).to_be_bytes());
+            rest.extend((BLOCK as u32).to_be_bytes());
+        }
+        let length = rest.len() as u8;
+        let pages = [self.pages, CHANGEABLE_PAGES, DEFAULT_PAGES][control as usize];
+        rest.extend(pages.page(page));
+        let device = 0x10 | (self.pages.write_protect as u8) << 7;
+        let head = match header {
+            4 => vec![rest.len() as u8 + 3, 0, device, length],
+            _ => vec![0, rest.len() as u8 + 6, 0, device, 0, 0, 0, length],
+        };
+        [head, rest].concat()
+    }
+
+    fn select_mode(&mut self, place: usize, header: usize, list: usize) {
+        let task = &self.queue[place];
+        let initiator = task.initiator;
+        let list = mode_list(&task.out[..list], header).unwrap_or_default();
+        let Some(pages) = self.pages.selected(&list) else {
+            return self.end(place, check(5, INVALID_LIST_FIELD));
+        };
+        let has_page = !list.is_empty();
+        let reorders = pages.unrestricted != self.pages.unrestricted;
+        self.pages = pages;
+        if has_page {
+            let others = (0..INITIATORS as u8).filter(|other| *other != initiator);
+            others.for_each(|other| self.raise(other, MODE_CHANGED));
+        }
+        self.end(place, Answer::Good(Vec::new()));
+        if reorders {
+            self.find_blockers();
+        }
+    }
+
+    fn find_blockers(&mut self) {
+        for place in 0..self.queue.len() {
+            if !self.queue[place].has_begun {
+                self.find_blocker(place);
+            }
+        }
+    }
+
+    fn reserve(&mut self, place: usize, action: u8, kind: u8, list: usize) {
+        let task = &self.queue[place];
+        let (initiator, number) = (task.initiator, task.number);
+        let keys = reservation_list(&task.out[..list]).unwrap_or_default();
+        match self.reservations.out(initiator, action, kind, keys) {
+            Err(NotReserved::Conflict) => self.end(place, Answer::Conflict),
+            Err(NotReserved::Code(code)) => self.end(place, check(5, code)),
+            Ok(reserved) => {
+                reserved.told.iter().for_each(|(other, code)| self.raise(*other, *code));
+                self.end(place, Answer::Good(Vec::new()));
+                if action == 5 {
+                    self.abort(number, &reserved.removed);
                 }
             }
         }
-        self.tasks.remove(place);
+    }
+
+    /// Cuts the waiting commands of nexuses that a PREEMPT AND ABORT removed.
+    fn abort(&mut self, by: u32, removed: &[u8]) {
+        let manner = if self.pages.tells_aborts { "told" } else { "silent" };
+        let is_cut = |task: &Task| !task.has_begun && removed.contains(&task.initiator);
+        for task in self.queue.iter().filter(|task| is_cut(task)) {
+            writeln!(self.report, "cut {} 0 by {by} {manner}", task.number).unwrap();
+            self.free += task.plan.need;
+        }
+        self.queue.retain(|task| !is_cut(task));
+        self.find_blockers();
+        if !self.pages.tells_aborts {
+            removed.iter().for_each(|other| self.raise(*other, CLEARED));
+        }
+    }
+
+    fn answer(&mut self, event: &str, number: u32, answer: Answer) {
+        write!(self.report, "{event} {number} ").unwrap();
+        match answer {
+            Answer::Good(data) => {
+                self.report.extend_from_slice(b"GOOD");
+                if !data.is_empty() {
+                    self.report.extend_from_slice(b" data ");
+                    push_bytes(&mut self.report, &data);
+                }
+            }
+            Answer::Check(sense) => {
+                self.report.extend_from_slice(b"CHECK CONDITION sense ");
+                for byte in sense.bytes(self.pages.descriptor_sense) {
+                    write!(self.report, "{byte:02x}").unwrap();
+                }
+            }
+            Answer::Busy => self.report.extend_from_slice(b"BUSY"),
+            Answer::Conflict => self.report.extend_from_slice(b"RESERVATION CONFLICT"),
+            Answer::Full => self.report.extend_from_slice(b"TASK SET FULL"),
+        }
+        self.report.push(b'\n');
     }
 }
 
-impl Refusal {
-    fn sense(&self) -> String {
-        let key = if *self == Refusal::PowerOn { 6 } else { 5 };
-        check_condition(key, *self as u16)
-    }
-}
-
-fn check_condition(key: u8, code: u16) -> String {
-    format!("CHECK CONDITION sense 7000{key:02x}000000000a00000000{code:04x}00000000")
-}
-
-fn push_good(report: &mut Vec<u8>, task: &Task) {
-    write!(report, "ended {} GOOD", task.number).unwrap();
-    if !task.got.is_empty() {
-        report.extend_from_slice(b" data ");
-        push_bytes(report, &task.got);
-    }
-    report.push(b'\n');
-}
+// The report
 
 fn push_bytes(report: &mut Vec<u8>, bytes: &[u8]) {
     let mut at = 0;
@@ -512,13 +1442,12 @@ fn push_disk(report: &mut Vec<u8>, disk: &[[u8; BLOCK]]) {
 }
 
 fn play(script: Script) -> Vec<u8> {
-    let Some(blocks) = script.blocks else { return b"report 1\ndone\n".to_vec() };
-    let disk = vec![[0; BLOCK]; blocks as usize];
-    let mut unit = Unit { disk, told: HashSet::new(), arrived: 0, tasks: Vec::new(), report: b"report 1\nlun 0\n".to_vec() };
+    let Some((blocks, depth, pool)) = script.unit else { return b"report 1\ndone\n".to_vec() };
+    let mut unit = Unit::open(blocks, depth, pool, &script.initiators);
     for (index, line) in script.lines.into_iter().enumerate() {
         match line {
             Line::Lun { .. } | Line::Port | Line::Map { .. } => {}
-            Line::Command(command) => unit.arrive(index + 1, command),
+            Line::Command(command) => unit.arrive(index + 1, *command),
             Line::Step { number, blocks } => unit.step(number, blocks as usize),
             Line::Drain | Line::Sync => unit.drain(),
         }
@@ -529,10 +1458,24 @@ fn play(script: Script) -> Vec<u8> {
     unit.report
 }
 
+fn fail(status: i32, reason: &str) -> ! {
+    eprintln!("ctltarget: {reason}");
+    std::process::exit(status)
+}
+
 fn main() {
-    let script = std::io::read_to_string(std::io::stdin()).ok().and_then(|text| parse_script(&text));
-    let Some(script) = script else { std::process::exit(3) };
+    let mut bytes = Vec::new();
+    if std::io::stdin().lock().take(MOST_SCRIPT + 1).read_to_end(&mut bytes).is_err() {
+        fail(4, "read fault");
+    }
+    if bytes.len() as u64 > MOST_SCRIPT {
+        fail(3, "script too long");
+    }
+    let script = parse_script(&bytes).unwrap_or_else(|(line, fault)| {
+        fail(3, &format!("script line {line}: {}", format!("{fault:?}").to_lowercase()))
+    });
+    drop(bytes);
     if std::io::stdout().write_all(&play(script)).is_err() {
-        std::process::exit(5);
+        fail(5, "write fault");
     }
 }
