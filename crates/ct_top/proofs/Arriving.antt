@@ -150,7 +150,7 @@ line_comes law o n number (Drain lun) lines before after size room h =
 line_comes law o n number Sync lines before after size room h =
     line_none law o n (record { no = number; word = Sync }) lines before.journal after.journal refl refl room (drains_none law o before after h)
 line_comes law o n number (Lun lun blocks sizes) lines before after size room h =
-    line_none law o n (record { no = number; word = Lun lun blocks }) lines before.journal after.journal refl refl room (subst (λ (p : Point). Came o before.journal p.journal [] (replay o before.journal).room) (sym h) (none_came o before.journal))
+    line_none law o n (record { no = number; word = Lun lun blocks sizes }) lines before.journal after.journal refl refl room (subst (λ (p : Point). Came o before.journal p.journal [] (replay o before.journal).room) (sym h) (none_came o before.journal))
 line_comes law o n number (Port port node) lines before after size room h =
     line_none law o n (record { no = number; word = Port port node }) lines before.journal after.journal refl refl room (subst (λ (p : Point). Came o before.journal p.journal [] (replay o before.journal).room) (sym h) (none_came o before.journal))
 line_comes law o n number (Map nexus x lun) lines before after size room h =

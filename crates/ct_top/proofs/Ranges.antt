@@ -30,7 +30,7 @@ blocks_in_range (line ∷ lines) h = go line.word (h 0 line (omega arith)) (bloc
         → IfSome (declared_blocks lines) (λ blocks. (1 ≤ blocks) × (blocks ≤ MOST_BLOCKS))
         → IfSome (declared_blocks (record { no = line.no; word = word } ∷ lines))
         (λ blocks. (1 ≤ blocks) × (blocks ≤ MOST_BLOCKS))
-    go (Lun lun blocks sizes) k rest = (k.0, k.1.0)
+    go (Lun lun blocks sizes) k rest = (k.0, k.1)
     go (Port port node) k rest = rest
     go (Map n x lun) k rest = rest
     go (Cmd n x tag attr cdb out) k rest = rest
@@ -46,7 +46,7 @@ sizes_in_range (line ∷ lines) h = go line.word (h 0 line (omega arith)) (sizes
   where
     go : (word : Word) → IsInRange word → IsSized (declared_sizes lines)
         → IsSized (declared_sizes (record { no = line.no; word = word } ∷ lines))
-    go (Lun lun blocks sizes) k rest = k.1.1
+    go (Lun lun blocks sizes) k rest = k.2
     go (Port port node) k rest = rest
     go (Map n x lun) k rest = rest
     go (Cmd n x tag attr cdb out) k rest = rest

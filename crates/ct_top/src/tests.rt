@@ -237,13 +237,16 @@ fn tells_the_first_fault_of_name(rt: HostRuntime) -> Result<(), Fail> {
 fn tells_the_first_fault_of_limit(rt: HostRuntime) -> Result<(), Fail> {
     let alloc = rt.alloc();
     let mut script = Vec::from_slice(alloc, HEAD.as_bytes())?;
-    for tag in 0..64 {
+    for tag in 0..16_384 {
         let line = format!(in alloc; "cmd 1 0 0 {tag} simple 28000000000000000000\n")?;
         script.extend_from_slice(line.as_bytes())?;
     }
     assert_eq!(rt; judge(alloc, script.as_slice())?, Exit::Done);
-    script.extend_from_slice(b"cmd 1 0 0 64 simple 28000000000000000000\n")?;
-    assert_eq!(rt; judge(alloc, script.as_slice())?, fault(69, What::Limit));
+    script.extend_from_slice(b"cmd 1 0 0 0 simple 28000000000000000000\n")?;
+    assert_eq!(rt;
+        judge(alloc, script.as_slice())?,
+        fault(16_389, What::Limit)
+    );
     let mut script = Vec::new(alloc);
     for _ in 0..65_536 {
         script.extend_from_slice(b"sync\n")?;

@@ -1,4 +1,6 @@
-use Rattle.std.proofs.Common.{rules, arith, ℕ, ◌≡◌, ◌<◌, [], List, Some, length, sym, ap, ◌∙◌, subst}
+use Rattle.std.proofs.Common.{rules, arith, ℕ, ◌≡◌, ◌<◌, ◌≤◌, [], List, Option, Some, length, sym, ap, ◌∙◌, subst}
+use Rattle.std.specs.Prelude.{IfSome}
+use Rattle.ct_word.specs.declared.limit.TheConstants.{MOST_BLOCKS}
 use Rattle.ct_word.specs.declared.names.Room.{Room}
 use Rattle.ct_book.specs.declared.event.Logged.{Logged}
 use Rattle.ct_book.specs.Journals.{BookState}
@@ -8,9 +10,10 @@ use Rattle.ct_pair.specs.Pairs.{medium_cuts}
 use Rattle.ct_script.specs.declared.script.Line.{Line}
 use Rattle.ct_script.specs.Lines.{IsWithin}
 use Rattle.ct_script.specs.Rules.{declared_blocks}
-use Rattle.ct_top.specs.Commands.{room_of, opening_of}
+use Rattle.ct_script.specs.declared.script.Sizes.{Sizes}
+use Rattle.ct_top.specs.Commands.{room_of, declared_sizes, opening_of}
 use Rattle.ct_top.specs.Played.{point_of, Drains, ByLines, IsPlayed}
-use Rattle.ct_top.proofs.Ranges.{few_events}
+use Rattle.ct_top.proofs.Ranges.{few_events, blocks_in_range, sizes_in_range}
 use Rattle.ct_top.proofs.Arriving.{all_come}
 use Rattle.ct_top.proofs.played.play_on.Goals as goal
 
@@ -19,6 +22,24 @@ open-requires-clause-events g c =
     subst (λ (room : Room). events_for room < 4294967296) (sym c.room_of-room.ensures)
     (few_events c.len.result c.lines.result.now (subst IsWithin (sym c.lines.ensures) c.is_within.ensures)
     (ap declared_blocks c.lines.ensures ∙ c.requires.declared ∙ ap Some (sym c.len.ensures)))
+
+pub open-requires-clause-low : goal.open-requires-clause-low
+open-requires-clause-low g c =
+    rw (c.sizes_of-depth.ensures ∙ ap declared_sizes c.lines-2.ensures) (sizes_in_range c.args.script c.is_within.ensures.in_range).some_commands
+
+pub open-requires-clause-high : goal.open-requires-clause-high
+open-requires-clause-high g c =
+    rw (c.sizes_of-depth.ensures ∙ ap declared_sizes c.lines-2.ensures) (sizes_in_range c.args.script c.is_within.ensures.in_range).few_commands
+
+pub open-requires-clause-some : goal.open-requires-clause-some
+open-requires-clause-some g c =
+    (subst (λ (found : Option ℕ). IfSome found (λ blocks. (1 ≤ blocks) × (blocks ≤ MOST_BLOCKS))) c.requires.declared
+    (blocks_in_range c.args.script c.is_within.ensures.in_range)).0
+
+pub open-requires-clause-few : goal.open-requires-clause-few
+open-requires-clause-few g c =
+    (subst (λ (found : Option ℕ). IfSome found (λ blocks. (1 ≤ blocks) × (blocks ≤ MOST_BLOCKS))) c.requires.declared
+    (blocks_in_range c.args.script c.is_within.ensures.in_range)).1
 
 pub returns-clause-played : goal.returns-clause-played
 returns-clause-played g c =
@@ -29,7 +50,9 @@ returns-clause-played g c =
     let third = c.drain.new.pair in
     let room : c.room_of-room.result ≡ room_of blocks script =
     c.room_of-room.ensures ∙ ap (λ n. room_of n c.lines.result.now) c.len.ensures ∙ ap (room_of blocks) c.lines.ensures in
-    let opening : first.opening ≡ opening_of blocks script = c.in_ok-pair.ensures.opening ∙ ap (λ (r : Room). record (opening_of blocks script) { room = r }) room in
+    let sizes : c.sizes_of-depth.result ≡ declared_sizes script = c.sizes_of-depth.ensures ∙ ap declared_sizes c.lines-2.ensures in
+    let opening : first.opening ≡ opening_of blocks script = c.in_ok-pair.ensures.opening ∙ ap (λ (sizes : Sizes). record (opening_of blocks script) { depth = sizes.depth; pool = sizes.pool; room = c.room_of-room.result }) sizes
+    ∙ ap (λ (r : Room). record (opening_of blocks script) { room = r }) room in
     let from = g.B.Backend.faults c.args.medium in
     let lines : ByLines (opening_of blocks script) script (record { journal = []; faults = from }) (point_of second) =
     subst (λ (n : ℕ). ByLines (opening_of blocks script) script (record { journal = []; faults = n }) (point_of second)) c.in_ok-pair.ensures.faults
