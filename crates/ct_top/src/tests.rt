@@ -123,7 +123,7 @@ fn refuses_other_words(rt: HostRuntime) -> Result<(), Fail> {
 
 #[test]
 fn tells_the_first_fault_of_form(rt: HostRuntime) -> Result<(), Fail> {
-    let lines: [&[u8]; 53] = [
+    let lines: [&[u8]; 58] = [
         b"",
         b" ",
         b"# a comment",
@@ -137,7 +137,12 @@ fn tells_the_first_fault_of_form(rt: HostRuntime) -> Result<(), Fail> {
         b"lun 0 block 5",
         b"lun  0 blocks 5",
         b"lun 0 blocks 5 ",
-        b"lun 0 blocks 5 depth 4 pool 4",
+        b"lun 0 blocks 5 depth 4",
+        b"lun 0 blocks 5 depth 0 pool 4",
+        b"lun 0 blocks 5 depth 257 pool 4",
+        b"lun 0 blocks 5 depth 4 pool 0",
+        b"lun 0 blocks 5 depth 4 pool 4097",
+        b"lun 0 blocks 5 pool 4 depth 4",
         b"lun 0 blocks 5\r",
         b"Lun 0 blocks 5",
         b"port 0",
@@ -154,7 +159,7 @@ fn tells_the_first_fault_of_form(rt: HostRuntime) -> Result<(), Fail> {
         b"cmd 0 1 0 1 simple 28000000000000000100",
         b"cmd 0 0 1 1 simple 28000000000000000100",
         b"cmd 0 0 0 4294967296 simple 28000000000000000100",
-        b"cmd 0 0 0 1 ordered 28000000000000000100",
+        b"cmd 0 0 0 1 aca 28000000000000000100",
         b"cmd 0 0 0 1 simple",
         b"cmd 0 0 0 1 simple 2a0",
         b"cmd 0 0 0 1 simple 28.00*99999999999999999999999999",
@@ -247,6 +252,8 @@ fn tells_the_first_fault_of_limit(rt: HostRuntime) -> Result<(), Fail> {
         judge(alloc, script.as_slice())?,
         fault(16_389, What::Limit)
     );
+    let most = b"lun 0 blocks 65536 depth 256 pool 4096\n";
+    assert_eq!(rt; judge(alloc, most)?, Exit::Done);
     let mut script = Vec::new(alloc);
     for _ in 0..65_536 {
         script.extend_from_slice(b"sync\n")?;
@@ -257,6 +264,20 @@ fn tells_the_first_fault_of_limit(rt: HostRuntime) -> Result<(), Fail> {
         judge(alloc, script.as_slice())?,
         fault(65_537, What::Limit)
     );
+    Ok(())
+}
+
+#[test]
+fn adds_up_the_data(rt: HostRuntime) -> Result<(), Fail> {
+    let alloc = rt.alloc();
+    let mut script = Vec::from_slice(alloc, HEAD.as_bytes())?;
+    for tag in 0..1_024 {
+        let line = format!(in alloc; "cmd 1 0 0 {tag} simple 000000000000 5a*131072\n")?;
+        script.extend_from_slice(line.as_bytes())?;
+    }
+    assert_eq!(rt; judge(alloc, script.as_slice())?, Exit::Done);
+    script.extend_from_slice(b"cmd 1 0 0 0 simple 000000000000 5a\n")?;
+    assert_eq!(rt; judge(alloc, script.as_slice())?, fault(1_029, What::Limit));
     Ok(())
 }
 
