@@ -1,6 +1,5 @@
 // The same job as a plain Rust program, without checks or proofs: rustc -O bench/plain.rs
-// It is a yardstick of time and memory, and a second opinion on every byte of a report: it was written from the
-// standards and the rules of docs/, and shares no code with the target.
+// It is a yardstick of time and memory, and a second opinion on every byte of a report.
 use std::collections::HashSet;
 use std::io::{Read, Write};
 use std::ops::RangeInclusive;
