@@ -113,7 +113,8 @@ def measure(folder, program, plain):
         print(row.format(
             name, os.path.getsize(script), lengths[script], f"{seconds:.3f}", f"{plain_seconds:.3f}",
             ratio(seconds, plain_seconds), kilobytes, plain_kilobytes,
-            allowed_memory(script, lengths[script] + data[script]), in_millions(count), in_millions(plain_count), ratio(count, plain_count)), flush=True)
+            allowed_memory(script, lengths[script] + data[script]), in_millions(count), in_millions(plain_count),
+            ratio(count, plain_count)), flush=True)
     print_doubled(measured_at)
 
 
