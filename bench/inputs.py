@@ -132,7 +132,8 @@ def inputs():
     for commands in (15, 30):
         yield f"pairs-{commands}", script(drained([write(k, 256, random_pairs(256, "")) for k in range(commands)], 15))
     for commands in (10, 20):
-        yield f"pieces-{commands}", script(drained([write(k, 256, random_pairs(256, ".")) for k in range(commands)], 10))
+        writes = [write(k, 256, random_pairs(256, ".")) for k in range(commands)]
+        yield f"pieces-{commands}", script(drained(writes, 10))
     for commands in (15, 30):
         writes = [write(k, 256, random_pairs(256, "")) for k in range(commands)]
         yield f"reads-{commands}", script(drained(writes + [read_back(k, 256) for k in range(commands)], 15))

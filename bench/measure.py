@@ -1,9 +1,10 @@
 #!/usr/bin/env python3
 """Measures a program beside the plain one: bench/measure.py [--plain PROGRAM] FOLDER PROGRAM WORD ..
 First the two must end alike on each input of the folder: the same bytes on standard output, the same status. Then a
-line for each input has, of both, the least processor time of five runs, the most memory and the instructions, where perf
-or valgrind counts them, with their ratios. `most` is the memory that the inputs' own sizes allow: script, data-out, disk
-and report, and a quarter. Last comes what twice the work costs, where an input is there with half its number.
+line for each input has, of both, the least processor time of five runs, the most memory and the instructions, where
+perf or valgrind counts them, with their ratios. `most` is the memory that the sizes of the input allow: script,
+data-out, data-in, disk and report, and a quarter. Last comes what twice the work costs, where an input is there with
+half its number.
 With no --plain, bench/plain.rs is built by rustc -O."""
 import os
 import re
@@ -57,8 +58,15 @@ def instructions(words, script):
     return None
 
 
-def allowed_memory(script, report):
-    """Script, data-out, disk and report in kilobytes, and a quarter of it."""
+def data_in(report):
+    """The bytes of data-in that a report prints."""
+    end = report.find(b"\ndisk ") if b"\ndisk " in report else len(report)
+    repeats = sum(int(count[1]) - 1 for count in re.compile(rb"\*(\d+)").finditer(report, 0, end))
+    return report.count(b" data ", 0, end) + report.count(b".", 0, end) + repeats
+
+
+def allowed_memory(script, report_and_data):
+    """Script, data-out, disk, report and data-in in kilobytes, and a quarter of it."""
     with open(script, "rb") as file:
         text = file.read()
     data = re.findall(rb"^cmd(?: \S+){6} (\S+)$", text, re.MULTILINE)
@@ -66,7 +74,7 @@ def allowed_memory(script, report):
     repeats = sum(int(count) - 1 for piece in data for count in re.findall(rb"\*(\d+)", piece))
     blocks = re.match(rb"lun 0 blocks (\d+)", text)
     disk = 512 * int(blocks[1]) if blocks else 0
-    return (len(text) + digits // 2 + repeats + disk + report) * 5 // 4 // 1024
+    return (len(text) + digits // 2 + repeats + disk + report_and_data) * 5 // 4 // 1024
 
 
 def figures(words, script):
@@ -84,13 +92,13 @@ def ratio(one, other):
 
 def measure(folder, program, plain):
     scripts = [os.path.join(folder, name) for name in sorted(os.listdir(folder))]
-    lengths = {}
+    lengths, data = {}, {}
     for script in scripts:
         report, status = ended(program, script)
         if (report, status) != ended(plain, script):
             sys.exit(f"{script}: the two programs end differently")
         # (a report that is kept would count in the memory of each later run)
-        lengths[script] = len(report)
+        lengths[script], data[script] = len(report), data_in(report)
         del report
     print(f"{len(scripts)} inputs: the two programs end alike on each")
     row = "{:16} {:>9} {:>9} {:>7} {:>7} {:>5} {:>7} {:>7} {:>7} {:>8} {:>8} {:>5}"
@@ -104,8 +112,9 @@ def measure(folder, program, plain):
         measured_at[name] = seconds, count
         print(row.format(
             name, os.path.getsize(script), lengths[script], f"{seconds:.3f}", f"{plain_seconds:.3f}",
-            ratio(seconds, plain_seconds), kilobytes, plain_kilobytes, allowed_memory(script, lengths[script]),
-            in_millions(count), in_millions(plain_count), ratio(count, plain_count)), flush=True)
+            ratio(seconds, plain_seconds), kilobytes, plain_kilobytes,
+            allowed_memory(script, lengths[script] + data[script]), in_millions(count), in_millions(plain_count),
+            ratio(count, plain_count)), flush=True)
     print_doubled(measured_at)
 
 

@@ -1,6 +1,5 @@
 // The same job as a plain Rust program, without checks or proofs: rustc -O bench/plain.rs
-// It is a yardstick of time and memory, and a second opinion on every byte of a report: it was written from the
-// standards and the rules of docs/, and shares no code with the target.
+// It is a yardstick of time and memory, and a second opinion on every byte of a report.
 use std::collections::HashSet;
 use std::io::{Read, Write};
 use std::ops::RangeInclusive;
@@ -1412,15 +1411,20 @@ impl Unit {
 
 // The report
 
+const HEXADECIMAL: &[u8; 16] = b"0123456789abcdef";
+
+/// Bytes as a byte text: runs of equal ones with dots between them.
 fn push_bytes(report: &mut Vec<u8>, bytes: &[u8]) {
     let mut at = 0;
     while at < bytes.len() {
-        let run = bytes[at..].iter().take_while(|byte| **byte == bytes[at]).count();
+        let byte = bytes[at];
+        let run = 1 + bytes[at + 1..].iter().take_while(|next| **next == byte).count();
+        let (high, low) = (HEXADECIMAL[(byte >> 4) as usize], HEXADECIMAL[(byte & 15) as usize]);
         if at > 0 {
-            report.push(b'.');
+            report.extend_from_slice(&[b'.', high, low]);
+        } else {
+            report.extend_from_slice(&[high, low]);
         }
-        let digits = b"0123456789abcdef";
-        report.extend_from_slice(&[digits[(bytes[at] / 16) as usize], digits[(bytes[at] % 16) as usize]]);
         if run > 1 {
             write!(report, "*{run}").unwrap();
         }
