@@ -241,7 +241,7 @@ MACHINES = [
         "followed (replies (event.Ended task.no) execution.reply s) (λ ended",
         "followed (says (event.Closed task.no Complete) s) (λ ended",
         "None", ["no_read 8 A 0 1", "step 3 1"],
-        "IsTyped", false_is_true_of("is_asked_for", at(4, ".1")),
+        "IsTyped", false_is_true_of("is_asked_for", at(4, ".work.1")),
         "has (is_entry 3) journal ≡ true",
         uses="use Rattle.ct_tmf.specs.declared.function.Outcome.TheVariants.{Complete}\n"),
     # an abort says that another work cut the command, which never came
@@ -250,7 +250,7 @@ MACHINES = [
         "says (event.Cut task.no (puts_of task s) (By by) (is_told s ask task)) s",
         "says (event.Cut task.no (puts_of task s) (By 99) (is_told s ask task)) s",
         "None", ["read 8 A 0 1 0 2", ABORT],
-        "IsTyped", false_is_true(at(ON_ONE_NODE + 4, ".1")),
+        "IsTyped", false_is_true(at(ON_ONE_NODE + 4, ".by")),
         "has (is_cut 3) journal ≡ true"),
     # a function is answered that was never taken up
     Machine(
@@ -258,7 +258,7 @@ MACHINES = [
         "else taking_up number ask s",
         "else says (event.Closed number Complete) s",
         "None", [ABORT],
-        "IsTyped", false_is_true(at(ON_ONE_NODE + 1, ".2")),
+        "IsTyped", false_is_true(at(ON_ONE_NODE + 1, ".closed")),
         "comes_first (is_asked 3) (is_entry 3) journal ≡ true"),
     # functions that close in one act close in the order in which they were taken up
     Machine(

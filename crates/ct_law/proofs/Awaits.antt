@@ -29,7 +29,7 @@ use Rattle.ct_machine.specs.declared.act.Act.{Act}
 use Rattle.ct_machine.specs.declared.act.Act.TheVariants as act
 use Rattle.ct_machine.specs.declared.act.Answer.TheVariants as answer
 use Rattle.ct_machine.specs.declared.act.Opening.{Opening}
-use Rattle.ct_machine.specs.States.{Stage, Waiting, Here, Granted, There, Over, Task, Open, Message, Arrival, State, opened, disk_of, arrival_of, task_of, function_of, is_here, is_waiting, is_moving, with_task, without_task, at_stage, queued, is_b}
+use Rattle.ct_machine.specs.States.{Stage, Waiting, Here, Granted, There, Over, Task, Open, Message, Arrival, State, opened, disk_of, arrival_of, task_of, function_of, is_here, is_waiting, is_moving, with_task, without_task, at_stage, queued, is_remote}
 use Rattle.ct_machine.specs.Events.{after}
 use Rattle.ct_machine.specs.Events.Sends.{message, stop, to_b_if, answered, came_at_b}
 use Rattle.ct_machine.specs.Events.Arrivals.{new_task}
@@ -668,7 +668,7 @@ asked s journal n ask l new sure h = more (n ∷ []) journal l s.tasks (with_fun
       where
         go : (t : Bool) → list_any (λ number. nat_eq number x.no) s.stopped ≡ t → IsIn x.no s.stopped ⊎ Sent is_stop x.no ks
         go true e = inl (any_in x.no s.stopped e)
-        go false e = inr (stop_sent s n ask s.tasks x hx (ap (λ b. b && cond (is_here x.stage) (is_b x.node) (not (list_any (λ number. nat_eq number x.no) s.stopped))) hit ∙ ap (λ b. cond b (is_b x.node) (not (list_any (λ number. nat_eq number x.no) s.stopped))) away ∙ ap not e))
+        go false e = inr (stop_sent s n ask s.tasks x hx (ap (λ b. b && cond (is_here x.stage) (is_remote x.node) (not (list_any (λ number. nat_eq number x.no) s.stopped))) hit ∙ ap (λ b. cond b (is_remote x.node) (not (list_any (λ number. nat_eq number x.no) s.stopped))) away ∙ ap not e))
 
     now : (x : Task) → Has s.tasks x → is_awaited ask x ≡ true → Pending x.stage x.no (s.to_b ++ ks)
     now x hx e = ⊎_elim

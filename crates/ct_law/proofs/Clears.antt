@@ -11,21 +11,23 @@ use Rattle.ct_book.specs.declared.event.Logged.{Logged}
 use Rattle.ct_book.specs.Journals.{numbered}
 use Rattle.ct_exec.specs.Controls.{tells_aborts}
 use Rattle.ct_machine.specs.declared.act.Opening.{Opening}
-use Rattle.ct_machine.specs.States.{Task, State, Waiting, Message, Open, is_waiting, is_b, task_of, without_task}
+use Rattle.ct_machine.specs.States.{Task, State, Waiting, Message, Open, is_waiting, is_remote, task_of, without_task}
 use Rattle.ct_machine.specs.Events.{after}
 use Rattle.ct_machine.specs.Events.Ends.{is_cleared, noted, stops_with}
 use Rattle.ct_machine.specs.Events.Sends.{stop}
 use Rattle.ct_machine.specs.Acts.Turns.{Turn, nothing, says}
+use Rattle.ct_machine.specs.Acts.Entries.{member_of, members_of}
 use Rattle.ct_machine.specs.Acts.Begins.{clearing, clearing_all}
 use Rattle.ct_machine.specs.Acts.Functions.{numbers_of}
 use Rattle.ct_machine.specs.Runs.{replay}
+use Rattle.ct_machine.specs.Laws.Standings.{standings_of}
 use Rattle.ct_machine.specs.Laws.Journals.{Each, has, is_entry, is_enter, IsCommandOf}
-use Rattle.ct_machine.specs.Laws.Timely.{Due, is_of, due_of, IsTimelyAt}
+use Rattle.ct_machine.specs.Laws.Timely.{Due, is_of, numbers_among, due_of, IsTimelyAt}
 use Rattle.ct_law.proofs.Tasks.{Has, has_found, has_without}
 use Rattle.ct_law.proofs.Journal.{each_more, has_now, has_stays}
 use Rattle.ct_law.proofs.Growing.{due-more, works_in-none}
 use Rattle.ct_law.proofs.Messages.{IsStop, stop_append}
-use Rattle.ct_law.proofs.Opens.{HasOpen, is_remote, opens_less}
+use Rattle.ct_law.proofs.Opens.{HasOpen, is_at_b, opens_less}
 use Rattle.ct_law.proofs.Inv.{Inv, told}
 use Rattle.ct_law.proofs.Entries.{leaves_so}
 use Rattle.ct_law.proofs.Overs.{cleared_so}
@@ -66,7 +68,7 @@ stops_struck : (told_so : Bool) (by : ℕ) (cleared : List Bool) (tasks : List T
     → IsStop k f (stops_with told_so by cleared tasks) → Struck by cleared tasks f k
 stops_struck told_so by cleared [] k f h = absurd h
 stops_struck told_so by cleared (y ∷ ys) k f h =
-    go (is_cleared cleared y) (is_b y.node) refl h (stops_struck told_so by cleared ys k f)
+    go (is_cleared cleared y) (is_remote y.node) refl h (stops_struck told_so by cleared ys k f)
   where
     more : Struck by cleared ys f k → Struck by cleared (y ∷ ys) f k
     more r = (r.0, r.1, inr r.2, r.3, r.4)
@@ -116,27 +118,27 @@ stops_so o s journal by told_so cleared closed h = record {
     i = inv_less NoneDue (Struck by cleared s.tasks) o s journal closed (λ f k due. absurd due) h
 
     -- none of these commands is at B
-    waits : (k f : ℕ) (x : Task) → Has s.tasks x → x.no ≡ k → is_remote x.stage ≡ true → Struck by cleared s.tasks f k
+    waits : (k f : ℕ) (x : Task) → Has s.tasks x → x.no ≡ k → is_at_b x.stage ≡ true → Struck by cleared s.tasks f k
         → ⊥
     waits k f x hx e remote due =
         let same : due.1 ≡ x = h.rules.single due.1 x due.2 hx (due.3 ∙ sym e) in
         let stage : x.stage ≡ Waiting =
         ap (λ (z : Task). z.stage) (sym same) ∙ cleared_waits cleared due.1 due.4 in
-        both_ways (is_remote x.stage) (ap is_remote stage) remote
+        both_ways (is_at_b x.stage) (ap is_at_b stage) remote
 
 -- The cuts
 
 -- the cuts that are due behind the end of a command
 abbrev pub due_from : ℕ → Bool → List Bool → List Task → Due
 due_from by told_so cleared tasks =
-    record { by = by; told = told_so; left = numbers_of (filter (is_of cleared) tasks) }
+    record { by = by; told = told_so; left = numbers_among (filter (is_of cleared) (members_of tasks)) }
 
 -- what holds while these commands are left to be looked at
 pub record Clearing (by : ℕ) (c : Command) (told_so : Bool) (cleared : List Bool) (rest : List Task) (o : Opening) (s : State) (journal : List Logged) : Type 0 where
   pub inv : Inv (Struck by cleared rest) o s journal
   pub at : s ≡ replay o journal
   pub timely : Each (TimelyAt o) journal
-  pub due : due_of o journal ≡ due_from by told_so cleared rest
+  pub due : due_of (standings_of o) o journal ≡ due_from by told_so cleared rest
   pub worked : Worked o.blocks s.tasks
   pub stands : Stands rest s.tasks
   pub closed : s.functions ≡ []
@@ -165,7 +167,7 @@ passed by c told_so cleared x rest o s journal h other = record {
   at = h.at;
   timely = h.timely;
   due = h.due
-      ∙ ap (λ b. record { by = by; told = told_so; left = numbers_of (cond b (x ∷ filter (is_of cleared) rest) (filter (is_of cleared) rest)) }) other;
+      ∙ ap (λ b. record { by = by; told = told_so; left = numbers_among (cond b (member_of x ∷ filter (is_of cleared) (members_of rest)) (filter (is_of cleared) (members_of rest))) }) other;
   worked = h.worked;
   stands = stands_tail x rest s.tasks h.stands;
   closed = h.closed;
@@ -198,7 +200,7 @@ cut_next by c told_so cleared x rest o s journal h cut_it = record {
   at = replayed o s journal e h.at;
   timely = each_more (TimelyAt o) [] journal e h.timely
       (subst (λ (due : Due). IsTimelyAt journal due due.left e.event) (sym due) (ap (event.Cut x.no 0 (By by)) tells));
-  due = due-more o journal e ∙ ap (λ (d : Due). record d { left = drop 1 d.left }) due;
+  due = due-more (standings_of o) o journal e ∙ ap (λ (d : Due). record d { left = drop 1 d.left }) due;
   worked = subst (λ (t : State). Worked o.blocks t.tasks) (sym state) (worked_without o.blocks x.no s.tasks h.worked);
   stands = subst (λ (t : State). Stands rest t.tasks) (sym state) (stands_without x rest s.tasks h.stands);
   closed = ap (λ (t : State). t.functions) state ∙ closed;
@@ -244,10 +246,10 @@ cut_next by c told_so cleared x rest o s journal h cut_it = record {
         (cleared_so (Struck by cleared (x ∷ rest)) o s journal x by c (tells_aborts s.control) h.inv
         (has_found x.no s.tasks x found).0 stage h.known h.entered h.gone)
 
-    due : due_of o journal
-        ≡ record { by = by; told = told_so; left = x.no ∷ numbers_of (filter (is_of cleared) rest) }
+    due : due_of (standings_of o) o journal
+        ≡ record { by = by; told = told_so; left = x.no ∷ numbers_among (filter (is_of cleared) (members_of rest)) }
     due = h.due
-        ∙ ap (λ b. record { by = by; told = told_so; left = numbers_of (cond b (x ∷ filter (is_of cleared) rest) (filter (is_of cleared) rest)) }) cut_it
+        ∙ ap (λ b. record { by = by; told = told_so; left = numbers_among (cond b (member_of x ∷ filter (is_of cleared) (members_of rest)) (filter (is_of cleared) (members_of rest))) }) cut_it
 
 -- one of them
 clear_one : (by : ℕ) (c : Command) (told_so : Bool) (cleared : List Bool) (x : Task) (rest : List Task) (o : Opening) (s : State) (journal : List Logged)

@@ -56,7 +56,7 @@ use Rattle.ct_machine.specs.Acts.Messages.{taking_in, coming_in, coming_to_a, st
 use Rattle.ct_machine.specs.Acts.Next.{next_step, stepping_next, doing_next}
 use Rattle.ct_machine.specs.Acts.{doing}
 use Rattle.ct_law.proofs.Books.{books_pop, books_quietly}
-use Rattle.ct_law.proofs.Opens.{is_remote, opens_no_longer}
+use Rattle.ct_law.proofs.Opens.{is_at_b, opens_no_longer}
 use Rattle.ct_law.proofs.Held.{opened_rules, opened_held, opened_size}
 use Rattle.ct_law.proofs.Ends.{granted_rules, granted_held}
 use Rattle.ct_law.proofs.Steps.{rules_same, holds_same, Comes, came_with, came_so}
@@ -167,7 +167,7 @@ arriving_so laws o s journal node w h = go (has_room_for w s)
 delivered_so : (P : ℕ → ℕ → Type 0) (o : Opening) (s : State) (journal : List Logged) (node : Node) (k : Kind2) (n : ℕ) → Inv P o s journal → Inv P o s (journal ++ told (event.Deliver node k n) ∷ [])
 delivered_so P o s journal node k n h = record {
   frame = record {
-    each = each_more (LawfulAt o) [] journal e h.frame.each (record { once = λ m z. absurd (cc); typed = tt; orderly = tt; reorders = tt; plan = tt; prefix = tt; cells = tt; sound = tt; legal = λ r. tt });
+    each = each_more (LawfulAt o) [] journal e h.frame.each (record { once = λ m z. absurd (cc); typed = record { work = tt; by = tt; closed = tt }; orderly = tt; reorders = tt; plan = tt; prefix = tt; cells = tt; sound = tt; legal = λ r. tt });
     works = h.frame.works ∙ sym (works_in-none journal e refl);
     size = h.frame.size;
     books = books_function journal s.arrivals s.tasks s.to_a e h.frame.books (λ m. refl) (λ y hy z. z) (λ m z i. i);
@@ -347,7 +347,7 @@ granted_so P o s journal x hx st h = record {
     size = h.frame.size;
     books = books_quietly journal s.arrivals s.tasks s.to_a x (There 0 []) h.frame.books hx (ap is_over st) (ap is_waiting st) (ap done_at st);
     orders = orders_turns journal s.tasks x (There 0 []) hx refl h.frame.orders;
-    opens = opens_turns P journal s.arrivals s.tasks s.functions s.to_a s.to_b x (There 0 []) hx (λ a. inl (record { task = x; has = hx; no = refl; command = refl; active = ap is_active st; remote = λ r. ap is_remote st })) h.frame.opens;
+    opens = opens_turns P journal s.arrivals s.tasks s.functions s.to_a s.to_b x (There 0 []) hx (λ a. inl (record { task = x; has = hx; no = refl; command = refl; active = ap is_active st; remote = λ r. ap is_at_b st })) h.frame.opens;
   };
   rules = granted_rules o.blocks (serial_disk o journal) s.control s.tasks x h.rules hx st;
   cells = record {
@@ -459,7 +459,7 @@ comes_to_b laws o s journal m ms to h = then_so NoneDue o journal first (coming_
         at Granted st = stays now
         at Over st = stays now
         at (There d g) st =
-            let was = h.inv.frame.opens.stops m.no m.by x (subst (λ q. IsStop m.no m.by q) (sym to) (inl (ap is_stop k, refl, refl))) (subst (λ (q : State). Has q.tasks x) state hx.0) hx.1 (ap is_remote st) in
+            let was = h.inv.frame.opens.stops m.no m.by x (subst (λ q. IsStop m.no m.by q) (sym to) (inl (ap is_stop k, refl, refl))) (subst (λ (q : State). Has q.tasks x) state hx.0) hx.1 (ap is_at_b st) in
             let asked = now.inv.frame.opens.asked was.0 (subst (λ (q : State). HasOpen q.functions was.0) (sym state) was.1) in
             let l : Logged = told (event.Cut x.no (puts_of x t) (By m.by) m.told) in
             let j : List Logged = journal ++ e ∷ [] in

@@ -25,17 +25,18 @@ use Rattle.ct_law.proofs.Orders.{orders_event, orders_turns, orders_removes}
 use Rattle.ct_law.proofs.Opens.{Opens, HasOpen, WasActive, Begins, opens_event, opens_queue, opens_a}
 use Rattle.ct_law.proofs.Inv.{LawfulAt, Frame, Others, Inv, replied, is_move, restricted_before, serial-same}
 use Rattle.ct_law.proofs.Inv.{cells_event, cells_quiet}
+use Rattle.ct_machine.specs.Laws.Standings.{standings_of}
 use Rattle.ct_machine.specs.Laws.Legal.{IsTurnedFor}
 use Rattle.ct_law.proofs.Steps.{rules_same, holds_same}
 
 -- a command is refused at its arrival
 pub turned_so : (P : ℕ → ℕ → Type 0) (o : Opening) (s : State) (journal : List Logged) (n : ℕ) (reply : Reply) → Inv P o s journal → Untouched n journal → (IsAsk n s.to_a → ⊥) → n ≤ length s.arrivals →
-    IsTurnedFor o journal n (Some reply) → ((y : Task) → Has s.tasks y → y.no ≡ n → ⊥) → ((p : Open) → HasOpen s.functions p → n ≡ p.no → ⊥) → Inv P o s (journal ++ replied (event.Turned n) reply ∷ [])
+    IsTurnedFor (standings_of o) o journal n (Some reply) → ((y : Task) → Has s.tasks y → y.no ≡ n → ⊥) → ((p : Open) → HasOpen s.functions p → n ≡ p.no → ⊥) → Inv P o s (journal ++ replied (event.Turned n) reply ∷ [])
 turned_so P o s journal n reply h u new within cause other closed = record {
   frame = record {
     each = each_more (LawfulAt o) [] journal e h.frame.each (record {
       once = λ m k. subst (λ i. has (is_entry i) journal ≡ false) (eqb-true n m k) u.entry;
-      typed = (cause.0, cause.1);
+      typed = record { work = (cause.0, cause.1); by = tt; closed = tt };
       orderly = tt;
       reorders = tt;
       plan = tt;

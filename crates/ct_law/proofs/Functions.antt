@@ -42,7 +42,7 @@ use Rattle.ct_law.proofs.Laws.{Laws}
 use Rattle.ct_law.proofs.Held.{rules_closes, closes_held}
 use Rattle.ct_law.proofs.Journal.{first_has, cut_more}
 use Rattle.ct_law.proofs.Growing.{numbered-map, numbered_back}
-use Rattle.ct_law.proofs.Opens.{IsIn, is_remote, opens_opens, opens_closes, has_without_function, opens_less}
+use Rattle.ct_law.proofs.Opens.{IsIn, is_at_b, opens_opens, opens_closes, has_without_function, opens_less}
 use Rattle.ct_law.proofs.Steps.{rules_same, holds_same}
 
 -- an event of a function that is none of the task set
@@ -63,7 +63,7 @@ rejected_so P o s journal n node ask h u new within came = record {
   frame = record {
     each = each_more (LawfulAt o) [] journal e h.frame.each (record {
       once = λ m k. subst (λ i. has (is_entry i) journal ≡ false) (eqb-true n m k) u.entry;
-      typed = (ask, function_in P o s journal n node ask h.frame came, u.asking);
+      typed = record { work = (ask, function_in P o s journal n node ask h.frame came); by = tt; closed = u.asking };
       orderly = tt;
       reorders = tt;
       plan = tt;
@@ -97,7 +97,7 @@ closes_so P laws o s journal p idle h hp none = record {
   frame = record {
     each = each_more (LawfulAt o) [] journal e h.frame.each (record {
       once = λ m k. subst (λ i. has (is_entry i) journal ≡ false) (eqb-true p.no m k) a.entry;
-      typed = (p.ask, in_journal, a.asking ∙ sym (ap not (unrejected (list_any (is_sought p.ask) s.tasks))));
+      typed = record { work = (p.ask, in_journal); by = tt; closed = a.asking ∙ sym (ap not (unrejected (list_any (is_sought p.ask) s.tasks))) };
       orderly = tt;
       reorders = tt;
       plan = tt;
@@ -235,7 +235,7 @@ stops_unended s by ask (y ∷ ys) n h = go (wants_stop s ask y) h (stops_unended
     go true (inr k) rec = rec k
     go false k rec = rec k
 
-remote_not_here : (stage : Stage) → is_remote stage ≡ true → is_here stage ≡ false
+remote_not_here : (stage : Stage) → is_at_b stage ≡ true → is_here stage ≡ false
 remote_not_here Waiting e = absurd (cc)
 remote_not_here (Here d g) e = absurd (cc)
 remote_not_here Granted e = refl
@@ -254,7 +254,7 @@ pub asked_so : (P : ℕ → ℕ → Type 0) (o : Opening) (s : State) (journal :
     numbered n s.arrivals ≡ Some (record { node = node; work = work.Ask ask }) → Inv (Due n ask s.tasks (numbers_of s.tasks)) o (taken_up n ask s) (journal ++ told (event.Asked n) ∷ [])
 asked_so P o s journal n node ask idle h u new within came = record {
   frame = record {
-    each = each_more (LawfulAt o) [] journal e h.frame.each (record { once = λ m k. absurd (cc); typed = (ask, function_in P o s journal n node ask h.frame came); orderly = tt; reorders = tt; plan = tt; prefix = tt; cells = tt; sound = tt; legal = λ r. tt });
+    each = each_more (LawfulAt o) [] journal e h.frame.each (record { once = λ m k. absurd (cc); typed = record { work = (ask, function_in P o s journal n node ask h.frame came); by = tt; closed = tt }; orderly = tt; reorders = tt; plan = tt; prefix = tt; cells = tt; sound = tt; legal = λ r. tt });
     works = h.frame.works ∙ sym (works_in-none journal e refl);
     size = h.frame.size;
     books = books;

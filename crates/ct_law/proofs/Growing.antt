@@ -15,6 +15,7 @@ use Rattle.ct_machine.specs.Events.{after, after_events}
 use Rattle.ct_machine.specs.Runs.{replay}
 use Rattle.ct_machine.specs.Serial.{disk_after, serial_behind, serial_disk}
 use Rattle.ct_machine.specs.Laws.Cells.{Beside, beside_after, beside_behind, beside}
+use Rattle.ct_machine.specs.Laws.Standings.{Standings}
 use Rattle.ct_machine.specs.Laws.Timely.{Due, due_after, due_behind, due_of}
 
 after_events-append : (s : State) (es fs : List Logged) → after_events s (es ++ fs) ≡ after_events (after_events s es) fs
@@ -48,15 +49,15 @@ pub beside-more : (o : Opening) (n : ℕ) (es : List Logged) (e : Logged) → be
 unfolding beside
 beside-more o n es e = beside_behind-more n [] es _ e
 
-due_behind-more : (o : Opening) (before es : List Logged) (d : Due) (e : Logged) → due_behind o before d (es ++ e ∷ []) ≡ due_after o (before ++ es) e e.event (due_behind o before d es)
-due_behind-more o before [] d e = ap (λ k. due_after o k e e.event d) (sym (append-nil before))
-due_behind-more o before (x ∷ es) d e =
-    due_behind-more o (before ++ x ∷ []) es (due_after o before x x.event d) e
-    ∙ ap (λ k. due_after o k e e.event (due_behind o (before ++ x ∷ []) (due_after o before x x.event d) es)) (append_assoc before (x ∷ []) es)
+due_behind-more : (standings : Standings) (o : Opening) (before es : List Logged) (d : Due) (e : Logged) → due_behind standings o before d (es ++ e ∷ []) ≡ due_after standings o (before ++ es) e e.event (due_behind standings o before d es)
+due_behind-more standings o before [] d e = ap (λ k. due_after standings o k e e.event d) (sym (append-nil before))
+due_behind-more standings o before (x ∷ es) d e =
+    due_behind-more standings o (before ++ x ∷ []) es (due_after standings o before x x.event d) e
+    ∙ ap (λ k. due_after standings o k e e.event (due_behind standings o (before ++ x ∷ []) (due_after standings o before x x.event d) es)) (append_assoc before (x ∷ []) es)
 
-pub due-more : (o : Opening) (es : List Logged) (e : Logged) → due_of o (es ++ e ∷ []) ≡ due_after o es e e.event (due_of o es)
+pub due-more : (standings : Standings) (o : Opening) (es : List Logged) (e : Logged) → due_of standings o (es ++ e ∷ []) ≡ due_after standings o es e e.event (due_of standings o es)
 unfolding due_of
-due-more o es e = due_behind-more o [] es _ e
+due-more standings o es e = due_behind-more standings o [] es _ e
 
 -- the works of a journal
 

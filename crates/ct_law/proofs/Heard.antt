@@ -1,6 +1,6 @@
 -- What runs owe of functions: whom they tell, how they are answered, that nothing begins while one is open, and that of
 -- those that close in one act the lower number goes first.
-use Rattle.std.proofs.Common.{◌≡◌, ℕ, zero, suc, ◌+◌, ◌<◌, ◌≤◌, inl, inr, Bool, true, false, not, ◌&&◌, List, [], ◌∷◌, ◌++◌, Option, Some, None, length, take, drop, refl, sym, ap, ◌∙◌, subst, ⊎_elim, eq-eqb, cond, arith, append_assoc, append-nil, leb-true}
+use Rattle.std.proofs.Common.{◌≡◌, ℕ, zero, suc, ◌+◌, ◌<◌, ◌≤◌, inl, inr, Bool, true, false, not, ◌&&◌, ◌||◌, List, [], ◌∷◌, ◌++◌, Option, Some, None, length, take, drop, refl, sym, ap, ◌∙◌, subst, ⊎_elim, eq-eqb, cond, arith, append_assoc, append-nil, leb-true}
 use Rattle.std.specs.Prelude.{nat_le, fold}
 use Rattle.std.proofs.lemmas.Bool.{both_ways, leb-false}
 use Rattle.std.proofs.lemmas.Option.{same_Some}
@@ -10,7 +10,8 @@ use Rattle.ct_word.specs.declared.names.Node.TheVariants.{A, B}
 use Rattle.ct_word.specs.Nexuses.{is_same_nexus}
 use Rattle.ct_sense.specs.declared.reply.Reply.{Reply}
 use Rattle.ct_tmf.specs.declared.function.Ask.{Ask}
-use Rattle.ct_tmf.specs.declared.function.Outcome.TheVariants.{Rejected}
+use Rattle.ct_tmf.specs.declared.function.Outcome.TheVariants.{Complete, Succeeded, Rejected}
+use Rattle.ct_tmf.specs.Reaches.{seeks}
 use Rattle.ct_plan.specs.declared.operation.BlockOp.{BlockOp}
 use Rattle.ct_plan.specs.Cells.{performed}
 use Rattle.ct_plan.specs.Pieces.{tried}
@@ -33,7 +34,8 @@ use Rattle.ct_machine.specs.Events.{after}
 use Rattle.ct_machine.specs.Events.Ends.{is_cleared, cut_at, after_cut}
 use Rattle.ct_machine.specs.Events.Functions.{is_hit, is_told}
 use Rattle.ct_machine.specs.Acts.Turns.{Turn, nothing, writes, says, replies, followed}
-use Rattle.ct_machine.specs.Acts.Entries.{turned_cause, entering_with, entering}
+use Rattle.ct_machine.specs.Entrances.{Member}
+use Rattle.ct_machine.specs.Acts.Entries.{member_of, members_of, standing_of, turned_cause, entering_with, entering}
 use Rattle.ct_machine.specs.Acts.Functions.{outcome_of, puts_of}
 use Rattle.ct_machine.specs.Acts.Functions.{cutting, numbers_of, cutting_all, closing_if, closing, open_numbers, closing_all, taking_up, asking}
 use Rattle.ct_machine.specs.Acts.Moves.{moving_on, failing, failing_if}
@@ -49,10 +51,11 @@ use Rattle.std.specs.Prelude.{slice_get}
 use Rattle.std.specs.List.{list_any}
 use Rattle.ct_machine.specs.Serial.{serial_disk}
 use Rattle.ct_machine.specs.Runs.{IsRun}
+use Rattle.ct_machine.specs.Laws.Standings.{standings_of}
 use Rattle.ct_machine.specs.Laws.Journals.{EachBehind, Each, has, is_begin, is_asked, IsCommandOf, IsFunctionOf}
 use Rattle.ct_machine.specs.Laws.Functions.{told_aborts_at, IsToldAt, IsOutcomeOf, IsAnsweredAt, NoneIsOpen, BeginsAlone, closed_by, last_closed, ClosesInOrder}
 use Rattle.ct_law.proofs.Tasks.{Has, has_found}
-use Rattle.ct_law.proofs.Journal.{has_stays, has_now, has_not}
+use Rattle.ct_law.proofs.Journal.{has_stays, has_now, has_not, unstarted}
 use Rattle.ct_law.proofs.Growing.{numbered-map, numbered_last}
 use Rattle.ct_law.proofs.Messages.{is_arrival, is_stop}
 use Rattle.ct_law.proofs.Books.{IsAsk, is_over}
@@ -68,7 +71,7 @@ use Rattle.ct_law.proofs.Steady.{HasMessage, numbers, Ascending, Telling, Steady
 -- what a journal owes of functions at an event
 pub record HeardAt (o : Opening) (before : List Logged) (l : Logged) : Type 0 where
   pub tells : IsToldAt o before l.event
-  pub answers : IsAnsweredAt o before l.event
+  pub answers : IsAnsweredAt (standings_of o) before l.event
   pub waits : BeginsAlone before l.event
   pub closes : ClosesInOrder before l.event
 
@@ -110,8 +113,8 @@ came_control n node w s = ap (λ (t : State). t.control) (after_arrived n node w
 begins_before : (o : Opening) (s : State) (journal : List Logged) (l : Logged) (n : ℕ) → l.event ≡ event.Ended n → has (is_begin n) journal ≡ true → HeardAt o journal l
 begins_before o s journal l n is began = record {
   tells = subst (λ e. IsToldAt o journal e) (sym is) tt;
-  answers = subst (λ e. IsAnsweredAt o journal e) (sym is) tt;
-  waits = subst (λ e. BeginsAlone journal e) (sym is) (λ none. absurd (both_ways (has (is_begin n) journal) none began));
+  answers = subst (λ e. IsAnsweredAt (standings_of o) journal e) (sym is) tt;
+  waits = subst (λ e. BeginsAlone journal e) (sym is) (λ none. absurd (both_ways (has (is_begin n) journal) (unstarted n journal none) began));
   closes = subst (λ e. ClosesInOrder journal e) (sym is) tt;
 }
 
@@ -209,11 +212,11 @@ ends_at_once o s journal x alone hx h =
     (clears_all o x.no x.node x.command execution.cleared (numbers_of first.state.tasks) first.state (journal ++ first.journal) (ap (numbered x.no) (arrivals_keep s l refl) ∙ h.known x hx) k.steady)
 
 begins_at : (o : Opening) (s : State) (journal : List Logged) (granted : Bool) (x : Task) (count : ℕ) (fault : Option ℕ) → NoneIsOpen journal → Steady o s journal → Heard o journal (beginning_at granted x count fault s)
-begins_at o s journal true x count fault alone h = plainly o s journal (told (event.Granted x.no)) refl refl (record { tells = tt; answers = tt; waits = alone; closes = tt }) h
+begins_at o s journal true x count fault alone h = plainly o s journal (told (event.Granted x.no)) refl refl (record { tells = tt; answers = tt; waits = λ none. alone; closes = tt }) h
 begins_at o s journal false x count fault alone h =
     let l : Logged = told (event.Begun x.no) in
     let first : Turn = says (event.Begun x.no) s in
-    let k : Heard o journal first = plainly o s journal l refl refl (record { tells = tt; answers = tt; waits = alone; closes = tt }) h in
+    let k : Heard o journal first = plainly o s journal l refl refl (record { tells = tt; answers = tt; waits = λ none. alone; closes = tt }) h in
     then o journal first (moving_from x count fault 0 []) k
     (moves_from o first.state (journal ++ first.journal) x count fault 0 [] (has_now (is_begin x.no) journal l (eq-eqb x.no x.no refl)) k.steady)
 
@@ -270,6 +273,16 @@ IsBelow journal ns = (lower : ℕ) → last_closed journal ≡ Some lower → (n
 below_none : (journal : List Logged) (ns : List ℕ) → last_closed journal ≡ None → IsBelow journal ns
 below_none journal ns none lower e n i = let k : None ≡ Some lower = sym none ∙ e in absurd (cc)
 
+-- the machine's outcome of a function is the law's
+any_member : (test : Member → Bool) (tasks : List Task) → list_any test (members_of tasks) ≡ list_any (λ (x : Task). test (member_of x)) tasks
+any_member test [] = refl
+any_member test (x ∷ xs) = ap (λ b. test (member_of x) || b) (any_member test xs)
+
+outcome_known : (ask : Ask) (s : State) → outcome_of ask s
+    ≡ cond (list_any (λ (member : Member). seeks ask member.command.nexus member.command.tag) (members_of s.tasks)) Succeeded Complete
+outcome_known ask s =
+    ap (λ b. cond b Succeeded Complete) (sym (any_member (λ member. seeks ask member.command.nexus member.command.tag) s.tasks))
+
 -- a function closes, or it awaits commands
 closes : (o : Opening) (s : State) (journal : List Logged) (n : ℕ) (ns : List ℕ) → IsBelow journal (n ∷ ns) → ((m : ℕ) → IsIn m ns → n < m) → Steady o s journal →
     Heard o journal (closing (function_of n s.functions) s) × IsBelow (journal ++ (closing (function_of n s.functions) s).journal) ns
@@ -284,8 +297,9 @@ closes o s journal n ns below ascending h = go (function_of n s.functions) refl
       plainly o s journal l refl refl (record {
         tells = tt;
         answers = λ ask is.
-            subst (λ (t : State). IsOutcomeOf t (has (is_asked p.no) journal) ask (outcome_of p.ask s)) h.at
-            (subst (λ b. IsOutcomeOf s b ask (outcome_of p.ask s)) (sym a.2) (ap (λ z. outcome_of z s) (sym (same_function o s journal p.no a.0 p.ask ask h a.1 is))));
+            subst (λ (t : State). IsOutcomeOf (standing_of t) (has (is_asked p.no) journal) ask (outcome_of p.ask s)) h.at
+            (subst (λ b. IsOutcomeOf (standing_of s) b ask (outcome_of p.ask s)) (sym a.2)
+            (ap (λ z. outcome_of z s) (sym (same_function o s journal p.no a.0 p.ask ask h a.1 is)) ∙ outcome_known ask s));
         waits = tt;
         closes = λ lower last. below lower last p.no (inl (sym e));
       }) h,
@@ -383,7 +397,8 @@ asks o s journal n node ask came new control last h = go (nat_le MOST_FUNCTIONS 
     rejected : MOST_FUNCTIONS ≤ length s.functions → Heard o journal (says (event.Closed n Rejected) s)
     rejected full = plainly o s journal (told (event.Closed n Rejected)) refl refl (record {
       tells = tt;
-      answers = λ asked is. subst (λ (t : State). IsOutcomeOf t (has (is_asked n) journal) asked Rejected) h.at (subst (λ b. IsOutcomeOf s b asked Rejected) (sym new) (refl, full));
+      answers = λ asked is. subst (λ (t : State). IsOutcomeOf (standing_of t) (has (is_asked n) journal) asked Rejected) h.at
+          (subst (λ b. IsOutcomeOf (standing_of s) b asked Rejected) (sym new) (refl, full));
       waits = tt;
       closes = λ lower e. let k : None ≡ Some lower = sym last ∙ e in absurd (cc);
     }) h

@@ -20,6 +20,7 @@ use Rattle.ct_machine.specs.Laws.Reorders.{ReordersAtRestAt}
 use Rattle.ct_machine.specs.Laws.Prefix.{RecordsPrefixAt}
 use Rattle.ct_machine.specs.Laws.Cells.{RepliesByCells, MakesPlanAt, Beside, beside, beside_after}
 use Rattle.ct_machine.specs.Laws.Kinds.{IsOfItsKind}
+use Rattle.ct_machine.specs.Laws.Standings.{standings_of}
 use Rattle.ct_machine.specs.Laws.Legal.{IsRestricted, IsLegalAt, IsSoundAt}
 use Rattle.ct_law.proofs.Tasks.{Has}
 use Rattle.ct_law.proofs.Laws.{Laws}
@@ -41,8 +42,8 @@ pub record LawfulAt (o : Opening) (before : List Logged) (l : Logged) : Type 0 w
   pub plan : MakesPlanAt o before l.event
   pub prefix : RecordsPrefixAt o before l.event
   pub cells : RepliesByCells o before l.event l.reply
-  pub sound : IsSoundAt o before l.event l.reply
-  pub legal : IsRestricted o before → IsLegalAt o before l.event l.reply
+  pub sound : IsSoundAt (standings_of o) o before l.event l.reply
+  pub legal : IsRestricted o before → IsLegalAt (standings_of o) o before l.event l.reply
 
 -- all but the blocks and the control
 pub record Frame (P : ℕ → ℕ → Type 0) (o : Opening) (s : State) (journal : List Logged) : Type 0 where

@@ -6,7 +6,7 @@ use Rattle.ct_book.specs.declared.event.Event.TheVariants as event
 use Rattle.ct_book.specs.declared.event.Why.TheVariants.{By, Medium}
 use Rattle.ct_book.specs.declared.event.Logged.{Logged}
 use Rattle.ct_book.specs.Histories.{cut_at, cut_by}
-use Rattle.ct_machine.specs.Laws.Journals.{EachBehind, has, is_entry, is_begin, is_enter, is_asked, made_at, made_by, comes_first}
+use Rattle.ct_machine.specs.Laws.Journals.{EachBehind, has, is_entry, is_begin, is_start, is_enter, is_asked, made_at, made_by, comes_first}
 
 pub each_more : (P : List Logged → Logged → Type 0) (before es : List Logged) (e : Logged) → EachBehind P before es → P (before ++ es) e → EachBehind P before (es ++ e ∷ [])
 each_more P before [] e h p = (subst (λ b. P b e) (append-nil before) p, tt)
@@ -47,6 +47,29 @@ has_same p es e i = has_more p es e ∙ go (has p es) (p e.event) i
     go : (t s : Bool) → s ≡ false → (t || s) ≡ t
     go true s k = refl
     go false s k = k
+
+-- what has not started has not begun
+pub unstarted : (n : ℕ) (es : List Logged) → has (is_start n) es ≡ false → has (is_begin n) es ≡ false
+unstarted n [] none = refl
+unstarted n (x ∷ es) none = go (is_start n x.event) (is_begin n x.event) (one x.event) none (unstarted n es)
+  where
+    one : (e : Event) → is_start n e ≡ false → is_begin n e ≡ false
+    one (event.Begun number) k = k
+    one (event.Granted number) k = k
+    one (event.Ended number) k = refl
+    one (event.Came number node line) k = refl
+    one (event.Enter number) k = refl
+    one (event.Turned number) k = refl
+    one (event.Moved number count) k = refl
+    one (event.Cut number puts why told) k = refl
+    one (event.Asked number) k = refl
+    one (event.Closed number outcome) k = refl
+    one (event.Deliver node kind number) k = refl
+
+    go : (t u : Bool) → (t ≡ false → u ≡ false) → (t || has (is_start n) es) ≡ false
+        → (has (is_start n) es ≡ false → has (is_begin n) es ≡ false) → (u || has (is_begin n) es) ≡ false
+    go true u less k rest = absurd (cc)
+    go false u less k rest = ap (λ z. z || has (is_begin n) es) (less refl) ∙ rest k
 
 pub made_more : (n : ℕ) (es : List Logged) (e : Logged) → made_by n (es ++ e ∷ []) ≡ made_by n es + made_at n e.event
 made_more n [] e = omega arith

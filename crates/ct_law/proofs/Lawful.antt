@@ -11,6 +11,7 @@ use Rattle.ct_machine.specs.Serial.{serial_disk}
 use Rattle.ct_machine.specs.Runs.{replay, IsRun}
 use Rattle.ct_machine.specs.Laws.Journals.{EachBehind, Each, has, is_entry, is_enter, work_in}
 use Rattle.ct_machine.specs.Laws.Once.{IsQuiet}
+use Rattle.ct_machine.specs.Laws.Standings.{standings_of}
 use Rattle.ct_machine.specs.Laws.Legal.{IsLegalAt}
 use Rattle.ct_machine.specs.Laws.{IsLawful}
 use Rattle.ct_law.proofs.Tasks.{Has}
@@ -32,7 +33,7 @@ each_map P R f before (l ∷ journal) h = (f before l h.0, each_map P R f (befor
 
 -- where the modifier says restricted all along, it did at each event
 legal_behind : (o : Opening) (before journal : List Logged) → Each (λ b l. is_unrestricted (serial_disk o b).control ≡ false) before → EachBehind (λ b l. is_unrestricted (serial_disk o b).control ≡ false) before journal → EachBehind (LawfulAt o) before journal →
-    EachBehind (λ b l. IsLegalAt o b l.event l.reply) before journal
+    EachBehind (λ b l. IsLegalAt (standings_of o) o b l.event l.reply) before journal
 legal_behind o before [] r rs h = tt
 legal_behind o before (l ∷ journal) r rs h = (
   h.0.legal (record { each = r; last = rs.0 }),

@@ -24,7 +24,7 @@ use Rattle.ct_law.proofs.Growing.{works_in-none, beside-more}
 use Rattle.ct_law.proofs.Messages.{IsStop}
 use Rattle.ct_law.proofs.Books.{is_over, arrival_for, books_turns}
 use Rattle.ct_law.proofs.Orders.{orders_event, orders_turns}
-use Rattle.ct_law.proofs.Opens.{HasOpen, is_remote, opens_event}
+use Rattle.ct_law.proofs.Opens.{HasOpen, is_at_b, opens_event}
 use Rattle.ct_law.proofs.Inv.{LawfulAt, Frame, Gained, Inv, Others, got_at, told, is_move, is_done, known_in}
 use Rattle.ct_law.proofs.Inv.{serial-same, cells_event}
 use Rattle.ct_plan.specs.Cells.{Progress, performed}
@@ -179,8 +179,8 @@ begun_so P laws o s journal x t idle h hx st ready none allowed moves = record {
     known = known_in P o s journal x h.frame hx
 
     lawful : (t : Bool) → IsBehindAll o journal x.no → LawfulAt o journal (told (first_event t x.no))
-    lawful true b = record { once = λ m k. absurd (cc); typed = (x.command, known); orderly = b; reorders = tt; plan = tt; prefix = tt; cells = tt; sound = tt; legal = λ r. tt }
-    lawful false b = record { once = λ m k. absurd (cc); typed = (x.command, known); orderly = b; reorders = tt; plan = tt; prefix = tt; cells = tt; sound = tt; legal = λ r. tt }
+    lawful true b = record { once = λ m k. absurd (cc); typed = record { work = (x.command, known); by = tt; closed = tt }; orderly = λ none. b; reorders = tt; plan = tt; prefix = tt; cells = tt; sound = tt; legal = λ r. tt }
+    lawful false b = record { once = λ m k. absurd (cc); typed = record { work = (x.command, known); by = tt; closed = tt }; orderly = λ none. b; reorders = tt; plan = tt; prefix = tt; cells = tt; sound = tt; legal = λ r. tt }
 
 -- Moves
 
@@ -202,7 +202,7 @@ moves_so P o s journal x count done got h hx at = record {
     frame = record {
       each = each_more (LawfulAt o) [] journal e h.frame.each (record {
         once = λ m k. absurd (cc);
-        typed = (c, known_in P o s journal x h.frame hx);
+        typed = record { work = (c, known_in P o s journal x h.frame hx); by = tt; closed = tt };
         orderly = tt;
         reorders = tt;
         plan = (h.cells.gained x hx alive).difference;
@@ -299,9 +299,9 @@ moves_so P o s journal x count done got h hx at = record {
     waits' : is_waiting stage ≡ false
     waits' = begun'.1
 
-    remote : (st : Stage) → IsAt st done got → is_remote (further st p.made p.cells.got) ≡ true → is_remote st ≡ true
-    remote st (inl k) r = absurd (both_ways _ (ap (λ z. is_remote (further z p.made p.cells.got)) k) r)
-    remote st (inr k) r = ap is_remote k
+    remote : (st : Stage) → IsAt st done got → is_at_b (further st p.made p.cells.got) ≡ true → is_at_b st ≡ true
+    remote st (inl k) r = absurd (both_ways _ (ap (λ z. is_at_b (further z p.made p.cells.got)) k) r)
+    remote st (inr k) r = ap is_at_b k
 
     unended : has (is_entry x.no) journal ≡ false
     unended = h.frame.books.entry x hx ∙ alive

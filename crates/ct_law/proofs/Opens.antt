@@ -25,14 +25,14 @@ use Rattle.ct_law.proofs.Growing.{numbered_front, numbered_older}
 use Rattle.ct_law.proofs.Messages.{is_end, Sent, IsStop, stop_append}
 
 -- at B, and not over
-abbrev pub is_remote : Stage → Bool
-is_remote Waiting = false
-is_remote (Here done gained) = false
-is_remote Granted = true
-is_remote (There done gained) = true
-is_remote Over = false
+abbrev pub is_at_b : Stage → Bool
+is_at_b Waiting = false
+is_at_b (Here done gained) = false
+is_at_b Granted = true
+is_at_b (There done gained) = true
+is_at_b Over = false
 
-pub remote_active : (stage : Stage) → is_remote stage ≡ true → is_active stage ≡ true
+pub remote_active : (stage : Stage) → is_at_b stage ≡ true → is_active stage ≡ true
 remote_active Waiting h = absurd (cc)
 remote_active (Here d g) h = absurd (cc)
 remote_active Granted h = refl
@@ -57,7 +57,7 @@ pub record IsAsked (journal : List Logged) (works : List Arrival) (o : Open) : T
 pub record Opens (P : ℕ → ℕ → Type 0) (journal : List Logged) (works : List Arrival) (queue : List Task) (functions : List Open) (to_a : List Message) (to_b : List Message) : Type 0 where
   pub gone : (n : ℕ) → Sent is_end n to_a → has (is_entry n) journal ≡ true
   pub begun : (n f : ℕ) → IsStop n f to_b → (has (is_begin n) journal ≡ true) ⊎ ((has (is_entry n) journal ≡ true) ⊎ P f n)
-  pub stops : (n f : ℕ) (x : Task) → IsStop n f to_b → Has queue x → x.no ≡ n → is_remote x.stage ≡ true → (o : Open) × HasOpen functions o × (o.no ≡ f) × IsIn n o.awaits × (is_hit o.ask x ≡ true)
+  pub stops : (n f : ℕ) (x : Task) → IsStop n f to_b → Has queue x → x.no ≡ n → is_at_b x.stage ≡ true → (o : Open) × HasOpen functions o × (o.no ≡ f) × IsIn n o.awaits × (is_hit o.ask x ≡ true)
   pub one : (o p : Open) → HasOpen functions o → HasOpen functions p → o.no ≡ p.no → o ≡ p
   pub asked : (o : Open) → HasOpen functions o → IsAsked journal works o
   pub awaits : (o : Open) (x : Task) → HasOpen functions o → Has queue x → is_active x.stage ≡ true → is_hit o.ask x ≡ true → IsIn x.no o.awaits ⊎ P o.no x.no
@@ -110,7 +110,7 @@ pub record WasActive (queue : List Task) (y : Task) : Type 0 where
   pub no : task.no ≡ y.no
   pub command : task.command ≡ y.command
   pub active : is_active task.stage ≡ true
-  pub remote : is_remote y.stage ≡ true → is_remote task.stage ≡ true
+  pub remote : is_at_b y.stage ≡ true → is_at_b task.stage ≡ true
 
 pub record Begins (journal : List Logged) (functions : List Open) (to_b : List Message) (y : Task) : Type 0 where
   pub closed : functions ≡ []
@@ -344,7 +344,7 @@ pub record Opening (P : ℕ → ℕ → Type 0) (journal : List Logged) (works :
   pub new : (o : Open) → HasOpen functions o → o.no ≡ p.no → ⊥
   pub unended : (n : ℕ) → Sent is_end n stops → ⊥
   pub begun : (n f : ℕ) → IsStop n f stops → (f ≡ p.no) × ((has (is_begin n) journal ≡ true) ⊎ ((has (is_entry n) journal ≡ true) ⊎ P f n))
-  pub hit : (n f : ℕ) (x : Task) → IsStop n f stops → Has queue x → x.no ≡ n → is_remote x.stage ≡ true → IsIn n p.awaits × (is_hit p.ask x ≡ true)
+  pub hit : (n f : ℕ) (x : Task) → IsStop n f stops → Has queue x → x.no ≡ n → is_at_b x.stage ≡ true → IsIn n p.awaits × (is_hit p.ask x ≡ true)
   pub awaits : (x : Task) → Has queue x → is_active x.stage ≡ true → is_hit p.ask x ≡ true → IsIn x.no p.awaits ⊎ P p.no x.no
   pub behind : (n : ℕ) (node : Node) (c : Command) → numbered n works ≡ Some (record { node = node; work = work.Cmd c }) → comes_first (is_enter n) (is_asked p.no) journal ≡ true → hits p.ask c.nexus c.tag ≡ true → (has (is_entry n) journal ≡ true) ⊎ (IsIn n p.awaits ⊎ P p.no n)
 

@@ -25,6 +25,7 @@ use Rattle.ct_machine.specs.Laws.Cells.{beside}
 use Rattle.ct_law.proofs.Tasks.{Has, with_itself}
 use Rattle.ct_law.proofs.Changed.{with_with}
 use Rattle.ct_law.proofs.Held.{Rules, Holds, is_active}
+use Rattle.ct_law.proofs.Journal.{unstarted}
 use Rattle.ct_law.proofs.Growing.{numbered-map}
 use Rattle.ct_law.proofs.Books.{is_over, arrival_for}
 use Rattle.ct_law.proofs.Opens.{Opens, HasOpen, opens_event, opens_cut}
@@ -81,8 +82,8 @@ ends_so P laws o s journal x done got found h hx at gained made held =
     entry_so P o s journal x e s.functions s.control s.blocks h hx b.0 (record {
       lawful = record {
         once = once_entry x.no journal (unended P o s journal x h.frame hx b.0);
-        typed = (x.command, known);
-        orderly = λ k. absurd (both_ways _ k begun);
+        typed = record { work = (x.command, known); by = tt; closed = tt };
+        orderly = λ k. absurd (both_ways _ (unstarted x.no journal k) begun);
         reorders = λ a entered began left.
             ap is_unrestricted (ap (λ w. (command_ran w d).control) known ∙ sym ran.control ∙ h.rules.control);
         plan = λ k none c w.
@@ -237,7 +238,7 @@ once_ends P laws o s journal x h hx st ready is_once =
     (ap is_over st) (record {
       lawful = record {
         once = once_entry x.no journal (unended P o s journal x h.frame hx (ap is_over st));
-        typed = (x.command, known);
+        typed = record { work = (x.command, known); by = tt; closed = tt };
         orderly = λ k. in_order P laws o s journal x h hx st ready;
         reorders = λ a entered began left.
             ap (λ w. is_unrestricted (command_ran w d).control) known ∙ keeps a entered began left;
@@ -339,7 +340,7 @@ pub medium_so : (P : ℕ → ℕ → Type 0) (o : Opening) (s : State) (journal 
 medium_so P o s journal x done got operation h hx at failed =
     cut_so P o s journal x e Medium false s.functions h hx b.0 refl refl (record {
       once = once_entry x.no journal (unended P o s journal x h.frame hx b.0);
-      typed = (x.command, known_in P o s journal x h.frame hx);
+      typed = record { work = (x.command, known_in P o s journal x h.frame hx); by = tt; closed = tt };
       orderly = tt;
       reorders = tt;
       plan = (h.cells.gained x hx b.0).difference;
@@ -373,7 +374,7 @@ pub by_so : (P : ℕ → ℕ → Type 0) (o : Opening) (s : State) (journal : Li
 by_so P o s journal x f node ask told_so h hx alive came hit asked unclosed =
     cut_so P o s journal x e (By f) told_so (noted f x.no s.functions) h hx alive refl refl (record {
       once = once_entry x.no journal (unended P o s journal x h.frame hx alive);
-      typed = ((x.command, known_in P o s journal x h.frame hx), ap is_some in_journal);
+      typed = record { work = (x.command, known_in P o s journal x h.frame hx); by = ap is_some in_journal; closed = tt };
       orderly = tt;
       reorders = tt;
       plan = (h.cells.gained x hx alive).difference;
@@ -420,7 +421,7 @@ cleared_so P o s journal x n c told_so h hx waits by entered gone =
     subst (λ puts. Inv P o (over_state s x (noted n x.no s.functions) s.control s.blocks) (journal ++ told (event.Cut x.no puts (By n) told_so) ∷ [])) none
     (cut_so P o s journal x e (By n) told_so (noted n x.no s.functions) h hx alive refl refl (record {
       once = once_entry x.no journal (unended P o s journal x h.frame hx alive);
-      typed = ((x.command, known_in P o s journal x h.frame hx), ap is_some by);
+      typed = record { work = (x.command, known_in P o s journal x h.frame hx); by = ap is_some by; closed = tt };
       orderly = tt;
       reorders = tt;
       plan = (h.cells.gained x hx alive).difference;

@@ -18,11 +18,13 @@ use Rattle.ct_exec.specs.Executions.{execute, plan_in}
 use Rattle.ct_machine.specs.declared.act.Opening.{Opening}
 use Rattle.ct_machine.specs.States.{Task, State, is_waiting, done_at, without_task, with_task, queued}
 use Rattle.ct_machine.specs.Events.{after}
-use Rattle.ct_machine.specs.Acts.Functions.{numbers_of}
+use Rattle.ct_machine.specs.Entrances.{Member}
+use Rattle.ct_machine.specs.Acts.Entries.{members_of}
 use Rattle.ct_machine.specs.Runs.{replay}
 use Rattle.ct_machine.specs.Serial.{serial_disk}
+use Rattle.ct_machine.specs.Laws.Standings.{standings_of}
 use Rattle.ct_machine.specs.Laws.Journals.{Each, IsCommandOf, IsFunctionOf}
-use Rattle.ct_machine.specs.Laws.Timely.{Due, is_of, due_by, due_after, due_of}
+use Rattle.ct_machine.specs.Laws.Timely.{Due, is_of, numbers_among, due_by, due_after, due_of}
 use Rattle.ct_machine.specs.Laws.Timely.{IsCutByCommand, IsTimelyAt}
 use Rattle.ct_law.proofs.Tasks.{Has, has_without, has_with, has_queued}
 use Rattle.ct_law.proofs.Journal.{each_more}
@@ -59,12 +61,12 @@ worked_queued n tasks w h waits x hx begun =
 -- Timely
 
 abbrev pub TimelyAt : Opening → List Logged → Logged → Type 0
-TimelyAt o before l = IsTimelyAt before (due_of o before) (due_of o before).left l.event
+TimelyAt o before l = IsTimelyAt before (due_of (standings_of o) o before) (due_of (standings_of o) o before).left l.event
 
 -- an event at which nothing was due, and behind which nothing is
 pub record IsUntimed (o : Opening) (journal : List Logged) (l : Logged) : Type 0 where
   pub cut : IsCutByCommand journal l.event → ⊥
-  pub due : (due : Due) → due.left ≡ [] → (due_after o journal l l.event due).left ≡ []
+  pub due : (due : Due) → due.left ≡ [] → (due_after (standings_of o) o journal l l.event due).left ≡ []
 
 -- an end or a cut
 abbrev is_timed : Event → Bool
@@ -84,7 +86,7 @@ pub untimed : (o : Opening) (journal : List Logged) (l : Logged) → is_timed l.
 untimed o journal l timed = go l.event refl timed
   where
     Fine : Event → Type 0
-    Fine e = (IsCutByCommand journal e → ⊥) × ((due : Due) → due.left ≡ [] → (due_after o journal l e due).left ≡ [])
+    Fine e = (IsCutByCommand journal e → ⊥) × ((due : Due) → due.left ≡ [] → (due_after (standings_of o) o journal l e due).left ≡ [])
 
     by : (e : Event) → l.event ≡ e → Fine e → IsUntimed o journal l
     by e is fine = let f = subst Fine (sym is) fine in record { cut = f.0; due = f.1 }
@@ -110,7 +112,7 @@ pub untimed_medium : (o : Opening) (journal : List Logged) (l : Logged) (number 
     → l.event ≡ event.Cut number puts Medium told → IsUntimed o journal l
 untimed_medium o journal l number puts told is = record {
   cut = λ c. subst (IsCutByCommand journal) is c;
-  due = λ due none. ap (λ e. (due_after o journal l e due).left) is ∙ none_left due.left none;
+  due = λ due none. ap (λ e. (due_after (standings_of o) o journal l e due).left) is ∙ none_left due.left none;
 }
 
 pub untimed_by : (o : Opening) (journal : List Logged) (l : Logged) (number puts by : ℕ) (told : Bool) (ask : Ask)
@@ -120,16 +122,16 @@ untimed_by o journal l number puts by told ask is asked = record {
       let command = subst (IsCutByCommand journal) is c in
       let same : work.Ask ask ≡ work.Cmd command.0 = same_Some _ _ (sym asked ∙ command.1) in
       cc;
-  due = λ due none. ap (λ e. (due_after o journal l e due).left) is ∙ none_left due.left none;
+  due = λ due none. ap (λ e. (due_after (standings_of o) o journal l e due).left) is ∙ none_left due.left none;
 }
 
 -- the commands of a set that holds no nexus
-pub none_of : (cleared : List Bool) (tasks : List Task) → ((nexus : Nexus) → contains cleared nexus ≡ false)
-    → filter (is_of cleared) tasks ≡ []
+pub none_of : (cleared : List Bool) (members : List Member) → ((nexus : Nexus) → contains cleared nexus ≡ false)
+    → filter (is_of cleared) members ≡ []
 none_of cleared [] none = refl
-none_of cleared (task ∷ tasks) none =
-    ap (λ b. cond b (task ∷ filter (is_of cleared) tasks) (filter (is_of cleared) tasks)) (none task.command.nexus)
-    ∙ none_of cleared tasks none
+none_of cleared (member ∷ members) none =
+    ap (λ b. cond b (member ∷ filter (is_of cleared) members) (filter (is_of cleared) members)) (none member.command.nexus)
+    ∙ none_of cleared members none
 
 -- an end of a command that clears no nexus
 pub untimed_end : (o : Opening) (journal : List Logged) (l : Logged) (number : ℕ) (c : Command)
@@ -138,10 +140,10 @@ pub untimed_end : (o : Opening) (journal : List Logged) (l : Logged) (number : �
 untimed_end o journal l number c is known none = record {
   cut = λ cut. subst (IsCutByCommand journal) is cut;
   due = λ due left.
-      ap (λ e. (due_after o journal l e due).left) is
-      ∙ ap (λ w. (due_by o journal number w (replay o (journal ++ l ∷ [])).tasks).left) known
-      ∙ ap numbers_of
-      (none_of (execute (serial_disk o journal) c).cleared (replay o (journal ++ l ∷ [])).tasks none);
+      ap (λ e. (due_after (standings_of o) o journal l e due).left) is
+      ∙ ap (λ w. (due_by o journal number w (members_of (replay o (journal ++ l ∷ [])).tasks)).left) known
+      ∙ ap numbers_among
+      (none_of (execute (serial_disk o journal) c).cleared (members_of (replay o (journal ++ l ∷ [])).tasks) none);
 }
 
 -- Schedules
@@ -149,7 +151,7 @@ untimed_end o journal l number c is known none = record {
 pub record Scheduled (o : Opening) (s : State) (journal : List Logged) : Type 0 where
   pub at : s ≡ replay o journal
   pub timely : Each (TimelyAt o) journal
-  pub due : (due_of o journal).left ≡ []
+  pub due : (due_of (standings_of o) o journal).left ≡ []
   pub worked : Worked o.blocks s.tasks
 
 pub replayed : (o : Opening) (s : State) (journal : List Logged) (l : Logged)
@@ -162,7 +164,7 @@ pub goes_on : (o : Opening) (s now : State) (journal : List Logged) (l : Logged)
 goes_on o s now journal l h is worked untimed = record {
   at = sym is ∙ replayed o s journal l h.at;
   timely = each_more (TimelyAt o) [] journal l h.timely
-      (subst (λ left. IsTimelyAt journal (due_of o journal) left l.event) (sym h.due) untimed.cut);
-  due = ap (λ (d : Due). d.left) (due-more o journal l) ∙ untimed.due (due_of o journal) h.due;
+      (subst (λ left. IsTimelyAt journal (due_of (standings_of o) o journal) left l.event) (sym h.due) untimed.cut);
+  due = ap (λ (d : Due). d.left) (due-more (standings_of o) o journal l) ∙ untimed.due (due_of (standings_of o) o journal) h.due;
   worked = worked;
 }

@@ -28,7 +28,7 @@ use Rattle.ct_machine.specs.Events.Arrivals.{new_task, after_enter}
 use Rattle.ct_machine.specs.Events.Moves.{staged, moved_at, after_moved}
 use Rattle.ct_machine.specs.Events.Deliveries.{awaits_no_more, is_over as gone_at_b, begun_at_b, after_grant}
 use Rattle.ct_machine.specs.Events.{after}
-use Rattle.ct_machine.specs.States.{is_b}
+use Rattle.ct_machine.specs.States.{is_remote}
 use Rattle.ct_exec.specs.Controls.{tells_aborts}
 use Rattle.ct_exec.specs.Executions.{execute}
 use Rattle.ct_machine.specs.Serial.{serial_disk}
@@ -255,7 +255,7 @@ goes_answered e k n s t no_stop h = go (came_at_b (arrival_of n t))
 
 with_stops : (told_so : Bool) (by : ℕ) (cleared : List Bool) (ts : List Task) (m : Message) → HasMessage (stops_with told_so by cleared ts) m → m.by ≡ by
 with_stops told_so by cleared [] m h = absurd h
-with_stops told_so by cleared (x ∷ ts) m h = go (is_cleared cleared x && is_b x.node) h (with_stops told_so by cleared ts m)
+with_stops told_so by cleared (x ∷ ts) m h = go (is_cleared cleared x && is_remote x.node) h (with_stops told_so by cleared ts m)
   where
     go : (t : Bool) → HasMessage (cond t (stop x.no by told_so ∷ stops_with told_so by cleared ts) (stops_with told_so by cleared ts)) m → (HasMessage (stops_with told_so by cleared ts) m → m.by ≡ by) → m.by ≡ by
     go true (inl h) rec = ap (λ (z : Message). z.by) (sym h)

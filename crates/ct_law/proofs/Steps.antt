@@ -17,7 +17,8 @@ use Rattle.ct_machine.specs.States.{Task, Message, Arrival, State, arrival_of, q
 use Rattle.ct_machine.specs.Events.Sends.{message, to_b_if, came_at_b, answered}
 use Rattle.ct_machine.specs.Events.Arrivals.{new_task}
 use Rattle.ct_machine.specs.Serial.{serial_disk}
-use Rattle.ct_machine.specs.Acts.Entries.{turned_cause}
+use Rattle.ct_machine.specs.Laws.Standings.{standings_of}
+use Rattle.ct_machine.specs.Laws.Legal.{refusal_behind}
 use Rattle.ct_machine.specs.Runs.{replay}
 use Rattle.ct_machine.specs.Laws.Journals.{has, is_entry, is_enter, IsCommandOf}
 use Rattle.ct_machine.specs.Laws.Legal.{IsRestricted}
@@ -78,7 +79,7 @@ pub came_so : (P : ℕ → ℕ → Type 0) (o : Opening) (s : State) (journal : 
     Inv P o (came_with s (record { node = node; work = w }) room to_a) (journal ++ arrived n node w ∷ [])
 came_so P o s journal n node w room to_a next h comes = record {
   frame = record {
-    each = each_more (LawfulAt o) [] journal e h.frame.each (record { once = λ m k. absurd (cc); typed = tt; orderly = tt; reorders = tt; plan = tt; prefix = tt; cells = tt; sound = tt; legal = λ r. tt });
+    each = each_more (LawfulAt o) [] journal e h.frame.each (record { once = λ m k. absurd (cc); typed = record { work = tt; by = tt; closed = tt }; orderly = tt; reorders = tt; plan = tt; prefix = tt; cells = tt; sound = tt; legal = λ r. tt });
     works = map-append (λ (a : Arrival). a.work) s.arrivals (arrival ∷ []) ∙ ap (λ ws. ws ++ w ∷ []) h.frame.works ∙ sym (works_in-more journal e (Some w) refl);
     size = h.frame.size;
     books = comes.books;
@@ -100,10 +101,10 @@ came_so P o s journal n node w room to_a next h comes = record {
 
 -- a command enters
 pub enter_so : (P : ℕ → ℕ → Type 0) (o : Opening) (s : State) (journal : List Logged) (n : ℕ) (node : Node) (c : Command) → Inv P o s journal → Untouched n journal → (IsAsk n s.to_a → ⊥) →
-    numbered n s.arrivals ≡ Some (record { node = node; work = work.Cmd c }) → turned_cause (replay o journal) c ≡ None → Inv P o (record s { tasks = queued (new_task n node c) s.tasks }) (journal ++ told (event.Enter n) ∷ [])
+    numbered n s.arrivals ≡ Some (record { node = node; work = work.Cmd c }) → refusal_behind (standings_of o) o journal c ≡ None → Inv P o (record s { tasks = queued (new_task n node c) s.tasks }) (journal ++ told (event.Enter n) ∷ [])
 enter_so P o s journal n node c h u new at free = record {
   frame = record {
-    each = each_more (LawfulAt o) [] journal e h.frame.each (record { once = λ m k. absurd (cc); typed = (c, known); orderly = tt; reorders = tt; plan = tt; prefix = tt; cells = tt; sound = (c, known, free); legal = λ r. tt });
+    each = each_more (LawfulAt o) [] journal e h.frame.each (record { once = λ m k. absurd (cc); typed = record { work = (c, known); by = tt; closed = tt }; orderly = tt; reorders = tt; plan = tt; prefix = tt; cells = tt; sound = (c, known, free); legal = λ r. tt });
     works = h.frame.works ∙ sym (works_in-none journal e refl);
     size = h.frame.size;
     books = books_in journal s.arrivals s.tasks s.to_a w e refl h.frame.books refl u new at;

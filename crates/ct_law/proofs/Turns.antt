@@ -11,6 +11,8 @@ use Rattle.ct_machine.specs.declared.act.Opening.{Opening}
 use Rattle.ct_machine.specs.States.{Task, Stage, Waiting, Here, Granted, There, Over, Open, State, without_task, with_task, at_stage}
 use Rattle.ct_machine.specs.Events.Sends.{message, answered}
 use Rattle.ct_machine.specs.Runs.{replay}
+use Rattle.ct_machine.specs.Acts.Entries.{members_of}
+use Rattle.ct_machine.specs.Laws.Standings.{standings_of}
 use Rattle.ct_machine.specs.Laws.Journals.{has, is_entry}
 use Rattle.ct_law.proofs.Tasks.{Has, with_itself}
 use Rattle.ct_law.proofs.Journal.{has_now}
@@ -529,10 +531,10 @@ once_so laws o s journal x h distinct hx st closed ready is_once =
             (ready_begun laws o.blocks (is_unrestricted s.control) s.tasks x y h.inv.rules.single ready other.0 other.1 (ap not e))
             (h.schedule.worked y other.0 e).0) cleared)
 
-    due : due_of o j ≡ due_from x.no told_so a.cleared now.tasks
+    due : due_of (standings_of o) o j ≡ due_from x.no told_so a.cleared now.tasks
     due =
-        due-more o journal l
-        ∙ ap (λ w. due_by o journal x.no w (replay o j).tasks) known
+        due-more (standings_of o) o journal l
+        ∙ ap (λ w. due_by o journal x.no w (members_of (replay o j).tasks)) known
         ∙ ap (λ q. due_from x.no told_so (execute d x.command).cleared q)
         (ap (λ (t : State). t.tasks) (sym (replayed o s journal l h.schedule.at) ∙ state))
         ∙ ap (λ c. due_from x.no told_so c now.tasks) (sym same.cleared)
@@ -542,7 +544,7 @@ once_so laws o s journal x h distinct hx st closed ready is_once =
       inv = stops_so o left j x.no (tells_aborts s.control) a.cleared still.0 inv;
       at = sym state ∙ replayed o s journal l h.schedule.at;
       timely = each_more (TimelyAt o) [] journal l h.schedule.timely
-          (subst (λ ns. IsTimelyAt journal (due_of o journal) ns l.event) (sym h.schedule.due) (λ c. c));
+          (subst (λ ns. IsTimelyAt journal (due_of (standings_of o) o journal) ns l.event) (sym h.schedule.due) (λ c. c));
       due = due;
       worked = subst (λ q. Worked o.blocks q) (sym tasks) (worked_without o.blocks x.no s.tasks h.schedule.worked);
       stands = stands_whole left.tasks (distinct_in left.tasks

@@ -13,10 +13,15 @@ use Rattle.ct_book.specs.declared.event.Kind2.TheVariants as kind
 use Rattle.ct_book.specs.declared.event.Why.TheVariants.{By}
 use Rattle.ct_book.specs.declared.event.Logged.{Logged}
 use Rattle.ct_book.specs.Journals.{numbered}
+use Rattle.ct_exec.specs.Controls.{ControlState}
+use Rattle.ct_exec.specs.Executions.{need_in}
 use Rattle.ct_machine.specs.declared.act.Opening.{Opening}
 use Rattle.ct_machine.specs.States.{Task, Stage, Waiting, Here, Granted, There, Over, Open, Arrival, State, arrival_of, without_task, with_task, at_stage, queued}
 use Rattle.ct_machine.specs.Events.Sends.{answered, came_at_b, message, to_b_if}
 use Rattle.ct_machine.specs.Events.Arrivals.{new_task}
+use Rattle.ct_machine.specs.Serial.{serial_disk}
+use Rattle.ct_machine.specs.Laws.Standings.{standings_of}
+use Rattle.ct_machine.specs.Laws.Legal.{refusal_behind}
 use Rattle.ct_machine.specs.Laws.Journals.{has, is_entry, is_enter, is_asked, IsCommandOf}
 use Rattle.ct_law.proofs.Tasks.{Has, has_without}
 use Rattle.ct_law.proofs.Journal.{has_not, has_now, has_stays, Untouched}
@@ -35,7 +40,8 @@ use Rattle.ct_machine.specs.Events.Functions.{is_hit, is_told, taken_up, closed,
 use Rattle.ct_machine.specs.Events.Ends.{after_cut, cut_at as cut_from, noted}
 use Rattle.ct_machine.specs.Acts.Functions.{outcome_of, puts_of, cutting, numbers_of, cutting_all, closing_if, closing, closing_all, taking_up, asking}
 use Rattle.ct_machine.specs.Acts.Turns.{Turn, nothing, writes, says, followed}
-use Rattle.ct_machine.specs.Acts.Entries.{turned_cause, entering_with, entering}
+use Rattle.ct_machine.specs.Entrances.{sender_of, entrance_of, refusal_at}
+use Rattle.ct_machine.specs.Acts.Entries.{standing_of, turned_cause, entering_with, entering}
 use Rattle.ct_law.proofs.Laws.{Laws}
 use Rattle.ct_law.proofs.Held.{IsSingle}
 use Rattle.ct_law.proofs.Tasks.{has_found}
@@ -113,6 +119,15 @@ after_entered : (n : ℕ) (node : Node) (c : Command) (s : State) → arrival_of
 unfolding after
 after_entered n node c s e = ap (λ a. after_enter n a s) e
 
+-- the machine's cause to refuse a command is the law's
+cause_known : (o : Opening) (s : State) (journal : List Logged) (c : Command) → Now NoneDue o s journal
+    → turned_cause s c ≡ refusal_behind (standings_of o) o journal c
+unfolding turned_cause
+cause_known o s journal c h =
+    ap (λ (k : ControlState). refusal_at (entrance_of (standing_of s)) k (sender_of c) (need_in (length s.blocks) c)) h.inv.rules.control
+    ∙ ap (λ n. refusal_at (entrance_of (standing_of s)) (serial_disk o journal).control (sender_of c) (need_in n c)) h.inv.frame.size
+    ∙ ap (λ (t : State). refusal_at (entrance_of (standing_of t)) (serial_disk o journal).control (sender_of c) (need_in o.blocks c)) h.schedule.at
+
 pub entering_so : (o : Opening) (s : State) (journal : List Logged) (n : ℕ) (node : Node) (c : Command) → Now NoneDue o s journal → Fresh s journal n → numbered n s.arrivals ≡ Some (record { node = node; work = work.Cmd c }) → After NoneDue o journal (entering n c s)
 entering_so o s journal n node c h f came = go (turned_cause s c) refl
   where
@@ -121,12 +136,12 @@ entering_so o s journal n node c h f came = go (turned_cause s c) refl
 
     go : (cause : Option Reply) → turned_cause s c ≡ cause → After NoneDue o journal (entering_with cause n s)
     go None e = wrote NoneDue o s _ journal (told (event.Enter n)) h.schedule (after_entered n node c s came)
-        (enter_so NoneDue o s journal n node c h.inv f.untouched f.unasked came (ap (λ t. turned_cause t c) (sym h.schedule.at) ∙ e))
+        (enter_so NoneDue o s journal n node c h.inv f.untouched f.unasked came (sym (cause_known o s journal c h) ∙ e))
         (worked_queued o.blocks s.tasks (new_task n node c) h.schedule.worked refl)
         (untimed o journal (told (event.Enter n)) refl)
     go (Some reply) e = wrote NoneDue o s _ journal (replied (event.Turned n) reply) h.schedule (after_turned n reply s)
         (answers NoneDue o s (journal ++ replied (event.Turned n) reply ∷ []) kind.Reply n refl
-        (turned_so NoneDue o s journal n reply h.inv f.untouched f.unasked f.within (c, known, sym e ∙ ap (λ t. turned_cause t c) h.schedule.at, refl)
+        (turned_so NoneDue o s journal n reply h.inv f.untouched f.unasked f.within (c, known, sym e ∙ cause_known o s journal c h, refl)
         (fresh_other NoneDue o s journal n h.inv f) (fresh_closed NoneDue o s journal n h.inv f)))
         (worked_answered o.blocks kind.Reply n s h.schedule.worked) (untimed o journal (replied (event.Turned n) reply) refl)
 

@@ -15,7 +15,7 @@ use Rattle.ct_book.specs.Journals.{KeptWork, numbered}
 use Rattle.ct_plan.specs.Cells.{Cells}
 use Rattle.ct_exec.specs.Controls.{tells_aborts}
 use Rattle.ct_exec.specs.Executions.{Execution, execute, plan_in}
-use Rattle.ct_machine.specs.States.{Stage, Waiting, Here, Granted, There, Over, Task, Open, Message, Arrival, State, disk_of, arrival_of, task_of, function_of, is_waiting, is_here, is_moving, is_b, without_task, with_task, at_stage, waits, queued}
+use Rattle.ct_machine.specs.States.{Stage, Waiting, Here, Granted, There, Over, Task, Open, Message, Arrival, State, disk_of, arrival_of, task_of, function_of, is_waiting, is_here, is_moving, is_remote, without_task, with_task, at_stage, waits, queued}
 use Rattle.ct_machine.specs.Events.Sends.{message, stop, to_b_if, came_at_b, answered}
 use Rattle.ct_machine.specs.Events.Arrivals.{new_task, entered}
 use Rattle.ct_machine.specs.Events.Moves.{staged, cells_after, further, moved_from}
@@ -414,7 +414,7 @@ stops_paid n s by ask later (x ∷ xs) grows sent = go (wants_stop s ask x) refl
     p = length (plan_in n x.command)
 
     one : low n later ask x + one_if (wants_stop s ask x) ≤ weight n s.stopped x
-    one = one_pays (is_hit ask x) (is_here x.stage) (is_b x.node) (has_number x.no s.stopped) (has_number x.no later) (weight n s.stopped x) (weight n later x)
+    one = one_pays (is_hit ask x) (is_here x.stage) (is_remote x.node) (has_number x.no s.stopped) (has_number x.no later) (weight n s.stopped x) (weight n later x)
         (grows x.no)
         (λ hit here. sent x (inl refl) (ap (λ t. t && not (is_here x.stage)) hit ∙ ap not here))
         (λ here. here_weight x.stage p (unstopped s.stopped x.no) here)

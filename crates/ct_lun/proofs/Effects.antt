@@ -12,7 +12,7 @@ use Rattle.ct_book.specs.declared.event.Logged.{Logged}
 use Rattle.ct_book.specs.Journals.{KeptWork, BookState, numbered, with_event, with_reply, reply_in, told_in}
 use Rattle.ct_exec.specs.Controls.{ControlState, tells_aborts, is_unrestricted}
 use Rattle.ct_exec.specs.Executions.{Execution, execute}
-use Rattle.ct_machine.specs.States.{Stage, Waiting, Here, Task, Message, State, disk_of, arrival_of, task_of, without_task, with_task, at_stage, is_b}
+use Rattle.ct_machine.specs.States.{Stage, Waiting, Here, Task, Message, State, disk_of, arrival_of, task_of, without_task, with_task, at_stage, is_remote}
 use Rattle.ct_machine.specs.Events.{after, after_events, after_event}
 use Rattle.ct_machine.specs.Events.Ends.{ended_at, cut_at, leaves, is_cleared, stops_with}
 use Rattle.ct_machine.specs.Events.Sends.{answered, came_at_b, stop}
@@ -118,7 +118,7 @@ over_wrote d d' p p' at reply e a h begun over room l book =
 -- every command came at A, so none is stopped at B
 
 abbrev IsAtA : Task → Type 0
-IsAtA task = is_b task.node ≡ false
+IsAtA task = is_remote task.node ≡ false
 
 tasks_at_a : (works : List KeptWork) (slots : List Slot) → Each IsAtA (tasks_in works slots)
 tasks_at_a works [] = tt
@@ -134,7 +134,7 @@ without_at_a number (task ∷ tasks) each = go (task.no == number) (without_at_a
 
 stops_none : (told : Bool) (by : ℕ) (cleared : List Bool) (tasks : List Task) → Each IsAtA tasks → stops_with told by cleared tasks ≡ []
 stops_none told by cleared [] each = refl
-stops_none told by cleared (task ∷ tasks) each = go (is_cleared cleared task) (is_b task.node) each.0 (stops_none told by cleared tasks each.1)
+stops_none told by cleared (task ∷ tasks) each = go (is_cleared cleared task) (is_remote task.node) each.0 (stops_none told by cleared tasks each.1)
   where
     go : (is_due at_b : Bool) → at_b ≡ false → stops_with told by cleared tasks ≡ [] → (if is_due && at_b then stop task.no by told ∷ stops_with told by cleared tasks else stops_with told by cleared tasks) ≡ []
     go true true e rest = absurd (false≢true (sym e))

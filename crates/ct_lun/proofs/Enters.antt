@@ -33,8 +33,8 @@ use Rattle.ct_exec.specs.Executions.{plan_in, need_in}
 use Rattle.ct_machine.specs.States.{Task, Arrival, held_of, held_by, queued, free_blocks}
 use Rattle.ct_machine.specs.Events.{after_event}
 use Rattle.ct_machine.specs.Events.Arrivals.{after_enter, new_task}
-use Rattle.ct_machine.specs.Entrances.{Sender, sender_of, is_same_sender}
-use Rattle.ct_machine.specs.Acts.Entries.{turned_cause, entering, entering_with}
+use Rattle.ct_machine.specs.Entrances.{Member, Sender, sender_of, is_same_sender}
+use Rattle.ct_machine.specs.Acts.Entries.{member_of, members_of, turned_cause, entering, entering_with}
 use Rattle.ct_lun.specs.declared.slot.Slot.{Slot}
 use Rattle.ct_lun.specs.Apart.{Each, Differs, IsApart}
 use Rattle.ct_lun.specs.Desk.{Desk, number_of, key_of, slot_of, waits, waiting_from, placed_slot}
@@ -50,11 +50,11 @@ use Rattle.ct_lun.proofs.Effects.{came_here, answered_here, reply_kept, after_on
 -- why a command is refused
 
 sent_same : (blocks : ℕ) (pool : PoolState) (works : List KeptWork) (replies : List (Option Reply)) (sender : Sender) (slots : List Slot) → Each (SlotAgrees blocks pool works replies) slots
-    → list_any (λ (task : Task). is_same_sender sender (sender_of task.command)) (tasks_in works slots) ≡ is_sent_by sender slots
+    → list_any (λ (member : Member). is_same_sender sender (sender_of member.command)) (members_of (tasks_in works slots)) ≡ is_sent_by sender slots
 sent_same blocks pool works replies sender [] each = refl
 sent_same blocks pool works replies sender (x ∷ xs) each =
     let here : sender_of (command_in works x.no) ≡ sender_of_slot x = rw (each.0.nexus, each.0.tag) refl in
-    ap (λ (by : Sender). is_same_sender sender by || list_any (λ (task : Task). is_same_sender sender (sender_of task.command)) (tasks_in works xs)) here
+    ap (λ (by : Sender). is_same_sender sender by || list_any (λ (member : Member). is_same_sender sender (sender_of member.command)) (members_of (tasks_in works xs))) here
     ∙ ap (λ (rest : Bool). is_same_sender sender (sender_of_slot x) || rest) (sent_same blocks pool works replies sender xs each.1)
 
 pub commands_count : (d : Desk) (p : BookState) → Agrees d p → length d.set.commands ≡ length d.slots
@@ -71,7 +71,7 @@ pub cause_known : (d : Desk) (p : BookState) (command : Command) (need : ℕ) �
 unfolding turned_cause
 cause_known d p command need a same =
     let sent = sent_same (length d.blocks) d.pool p.works p.replies (sender_of command) d.slots a.each in
-    rw (sent, free_known d p a, ← same, tasks_count d p, commands_count d p a) refl
+    rw (sent, free_known d p a, ← same, length-map (state_of d p).tasks member_of, tasks_count d p, commands_count d p a) refl
 
 -- a number that no slot has
 

@@ -1,5 +1,6 @@
--- Why a command is refused at its arrival.
-use Rattle.std.specs.Prelude.{ℕ, [], Bool, false, ◌&&◌, ◌==◌, nat_le, nat_lt, if◌then◌else◌, Option, None, Some}
+-- What a logical unit stands at, for those who judge what comes next, and why a command is refused at its arrival.
+use Rattle.std.specs.Prelude.{ℕ, List, [], length, Bool, false, ◌&&◌, ◌==◌, nat_le, nat_lt, if◌then◌else◌, Option, None, Some}
+use Rattle.std.specs.List.{list_any}
 use Rattle.ct_word.specs.declared.names.Nexus.{Nexus}
 use Rattle.ct_word.specs.declared.names.Tag.{Tag}
 use Rattle.ct_word.specs.Nexuses.{is_same_nexus}
@@ -29,6 +30,27 @@ pub record Entrance : Type 0 where
   pub held : ℕ
   pub has : Sender → Bool
   pub free : ℕ
+
+-- a command of the task set, with its number
+pub record Member : Type 0 where
+  pub no : ℕ
+  pub command : Command
+
+-- what a logical unit stands at: how many commands its task set can hold, those that it holds, in queue order, how many
+-- blocks of the pool are free, and how many task management functions are open
+pub record Standing : Type 0 where
+  pub depth : ℕ
+  pub members : List Member
+  pub free : ℕ
+  pub functions : ℕ
+
+abbrev pub entrance_of : Standing → Entrance
+entrance_of standing = record {
+  depth = standing.depth;
+  held = length standing.members;
+  has = λ sender. list_any (λ (member : Member). is_same_sender sender (sender_of member.command)) standing.members;
+  free = standing.free;
+}
 
 abbrev pub with_status : Status → Reply
 with_status status = record { status = status; sense = None; descriptor = false; body = [] }

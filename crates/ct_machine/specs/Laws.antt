@@ -1,5 +1,6 @@
 -- What the journal of a logical unit owes, whatever the schedule.
 pub mod Journals
+pub mod Standings
 pub mod Once
 pub mod Orderly
 pub mod Reorders

@@ -136,9 +136,10 @@ done_at (Here done got) = done
 done_at (There done got) = done
 done_at _ = 0
 
-abbrev pub is_b : Node → Bool
-is_b A = false
-is_b B = true
+-- what came at this node came at the other one, not where the task set is
+abbrev pub is_remote : Node → Bool
+is_remote A = false
+is_remote B = true
 
 -- all but a waiting command have begun
 abbrev pub has_begun : Stage → Bool

@@ -3,14 +3,13 @@ use Rattle.std.specs.Prelude.{ℕ, List, [], ◌∷◌, Bool, true, false, if◌
 use Rattle.ct_word.specs.declared.names.Ha.{Ha}
 use Rattle.ct_word.specs.declared.names.Ha.TheVariants.{Serialise}
 use Rattle.ct_word.specs.declared.names.Node.{Node}
-use Rattle.ct_word.specs.declared.names.Node.TheVariants.{B}
 use Rattle.ct_sense.specs.declared.reply.Reply.{Reply}
 use Rattle.ct_plan.specs.declared.operation.BlockOp.{BlockOp}
 use Rattle.ct_book.specs.declared.event.Event.TheVariants as event
 use Rattle.ct_book.specs.declared.event.Why.TheVariants.{By}
 use Rattle.ct_exec.specs.Controls.{tells_aborts}
 use Rattle.ct_exec.specs.Executions.{execute}
-use Rattle.ct_machine.specs.States.{Granted, Task, State, disk_of, task_of}
+use Rattle.ct_machine.specs.States.{Granted, Task, State, disk_of, task_of, is_remote}
 use Rattle.ct_machine.specs.Events.Ends.{is_cleared}
 use Rattle.ct_machine.specs.Acts.Turns.{Turn, nothing, says, replies, followed}
 use Rattle.ct_machine.specs.Acts.Functions.{numbers_of}
@@ -33,10 +32,10 @@ ending_at_once task s =
     let execution = execute (disk_of s) task.command in
     followed (replies (event.Ended task.no) execution.reply s) (λ ended. clearing_all task.no execution.cleared (numbers_of ended.tasks) ended)
 
--- in the mode `serialise` a command of B is granted to it
+-- in the mode `serialise` a command of the other node is granted to it
 abbrev pub is_granted : Ha → Node → Bool
-is_granted Serialise B = true
-is_granted _ _ = false
+is_granted Serialise node = is_remote node
+is_granted _ node = false
 
 abbrev pub beginning_at : Bool → Task → ℕ → Option ℕ → State → Turn
 beginning_at true task count fault s = says (event.Granted task.no) s

@@ -1,7 +1,6 @@
 -- A work comes: it takes its room, and goes to A as a message where it came at B. A command enters the task set.
-use Rattle.std.specs.Prelude.{ℕ, ◌+◌, ◌-◌, [], ◌∷◌, ◌++◌, length, Option, None, Some}
+use Rattle.std.specs.Prelude.{ℕ, ◌+◌, ◌-◌, [], ◌∷◌, ◌++◌, length, if◌then◌else◌, Option, None, Some}
 use Rattle.ct_word.specs.declared.names.Node.{Node}
-use Rattle.ct_word.specs.declared.names.Node.TheVariants.{A, B}
 use Rattle.ct_tmf.specs.declared.function.Ask.{Ask}
 use Rattle.ct_book.specs.declared.work.Command.{Command}
 use Rattle.ct_book.specs.declared.work.Work.TheVariants as work
@@ -9,7 +8,7 @@ use Rattle.ct_book.specs.declared.event.Kind2.{Kind2}
 use Rattle.ct_book.specs.declared.event.Kind2.TheVariants as kind
 use Rattle.ct_book.specs.Journals.{KeptWork}
 use Rattle.ct_exec.specs.Executions.{plan_in}
-use Rattle.ct_machine.specs.States.{Waiting, Task, Arrival, State, queued}
+use Rattle.ct_machine.specs.States.{Waiting, Task, Arrival, State, is_remote, queued}
 use Rattle.ct_machine.specs.Events.Sends.{message, to_a}
 
 abbrev pub with_room : ℕ → KeptWork → State → State
@@ -25,8 +24,7 @@ kind_of (work.Cmd command) = kind.Ask
 kind_of (work.Ask ask) = kind.Function
 
 abbrev pub sent_from : Node → ℕ → KeptWork → State → State
-sent_from A number came s = s
-sent_from B number came s = to_a (message (kind_of came) number) s
+sent_from node number came s = if is_remote node then to_a (message (kind_of came) number) s else s
 
 abbrev pub after_came : ℕ → Node → Option KeptWork → State → State
 after_came number node None s = s

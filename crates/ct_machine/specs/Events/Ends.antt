@@ -7,7 +7,7 @@ use Rattle.ct_book.specs.declared.event.Why.{Why}
 use Rattle.ct_book.specs.declared.event.Why.TheVariants.{By, Medium}
 use Rattle.ct_exec.specs.Controls.{tells_aborts}
 use Rattle.ct_exec.specs.Executions.{execute}
-use Rattle.ct_machine.specs.States.{Stage, Waiting, There, Over, Task, Open, Message, State, disk_of, without_task, with_task, at_stage, is_waiting, is_b}
+use Rattle.ct_machine.specs.States.{Stage, Waiting, There, Over, Task, Open, Message, State, disk_of, without_task, with_task, at_stage, is_waiting, is_remote}
 use Rattle.ct_machine.specs.Events.Sends.{message, stop, to_a, to_b, answered}
 
 abbrev pub leaves : ℕ → State → State
@@ -24,7 +24,7 @@ is_cleared cleared task = is_waiting task.stage && contains cleared task.command
 abbrev pub stops_with : Bool → ℕ → List Bool → List Task → List Message
 stops_with told by cleared [] = []
 stops_with told by cleared (task ∷ tasks) =
-    if is_cleared cleared task && is_b task.node then stop task.no by told ∷ stops_with told by cleared tasks
+    if is_cleared cleared task && is_remote task.node then stop task.no by told ∷ stops_with told by cleared tasks
     else stops_with told by cleared tasks
 
 -- a command that ends when it would begin is executed whole

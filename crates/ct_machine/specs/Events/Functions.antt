@@ -9,7 +9,7 @@ use Rattle.ct_book.specs.declared.event.Kind2.TheVariants as kind
 use Rattle.ct_book.specs.Journals.{KeptWork}
 use Rattle.ct_book.specs.Histories.{set_of}
 use Rattle.ct_exec.specs.Controls.{tells_aborts, closing_control}
-use Rattle.ct_machine.specs.States.{Task, Open, Message, Arrival, State, function_of, is_here, is_b}
+use Rattle.ct_machine.specs.States.{Task, Open, Message, Arrival, State, function_of, is_here, is_remote}
 use Rattle.ct_machine.specs.Events.Sends.{stop, to_b, answered}
 
 abbrev pub is_hit : Ask → Task → Bool
@@ -28,7 +28,7 @@ is_told s ask task = tells_aborts s.control && not (is_same_nexus ask.nexus task
 -- a stop goes to B for a command of B that is cut at A, and for one that is there, unless one was sent
 abbrev pub wants_stop : State → Ask → Task → Bool
 wants_stop s ask task =
-    is_hit ask task && (if is_here task.stage then is_b task.node else not (list_any (λ number. number == task.no) s.stopped))
+    is_hit ask task && (if is_here task.stage then is_remote task.node else not (list_any (λ number. number == task.no) s.stopped))
 
 abbrev pub stops_by : State → ℕ → Ask → List Task → List Message
 stops_by s by ask [] = []

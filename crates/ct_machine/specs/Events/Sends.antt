@@ -2,7 +2,7 @@
 use Rattle.std.specs.Prelude.{ℕ, ◌+◌, ◌-◌, [], ◌∷◌, ◌++◌, Bool, true, false, if◌then◌else◌, Option, None, Some}
 use Rattle.ct_book.specs.declared.event.Kind2.{Kind2}
 use Rattle.ct_book.specs.declared.event.Kind2.TheVariants as kind
-use Rattle.ct_machine.specs.States.{Message, Arrival, State, arrival_of, is_b}
+use Rattle.ct_machine.specs.States.{Message, Arrival, State, arrival_of, is_remote}
 
 abbrev pub message : Kind2 → ℕ → Message
 message kind number = record { kind = kind; no = number; by = number; told = false }
@@ -22,7 +22,7 @@ to_b_if true sent s = to_b sent s
 to_b_if false sent s = s
 
 abbrev pub came_at_b : Option Arrival → Bool
-came_at_b (Some arrival) = is_b arrival.node
+came_at_b (Some arrival) = is_remote arrival.node
 came_at_b None = false
 
 abbrev pub answered : Kind2 → ℕ → State → State

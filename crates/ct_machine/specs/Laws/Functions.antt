@@ -14,10 +14,10 @@ use Rattle.ct_book.specs.declared.event.Why.TheVariants.{By, Medium}
 use Rattle.ct_book.specs.declared.event.Logged.{Logged}
 use Rattle.ct_exec.specs.Controls.{tells_aborts}
 use Rattle.ct_machine.specs.declared.act.Opening.{Opening}
-use Rattle.ct_machine.specs.States.{Task, State}
-use Rattle.ct_machine.specs.Runs.{replay}
+use Rattle.ct_machine.specs.Entrances.{Member, Standing}
 use Rattle.ct_machine.specs.Serial.{serial_disk}
-use Rattle.ct_machine.specs.Laws.Journals.{Each, has, is_entry, is_begin, is_asked, IsCommandOf, IsFunctionOf}
+use Rattle.ct_machine.specs.Laws.Standings.{Standings, standings_of}
+use Rattle.ct_machine.specs.Laws.Journals.{Each, has, is_entry, is_asked, started_by, AtStart, IsCommandOf, IsFunctionOf}
 
 -- the events of a journal before the first that passes a test
 abbrev pub until : (Event → Bool) → List Logged → List Logged
@@ -51,46 +51,40 @@ TellsOfCuts o journal = Each (λ before logged. IsToldAt o before logged.event) 
 
 -- a function that wasn't taken up is rejected, since as many are open as can be; one that was succeeds where it is a
 -- query that finds a command of the task set, and else it is complete
-abbrev pub IsOutcomeOf : State → Bool → Ask → Outcome → Type 0
-IsOutcomeOf s false ask outcome = (outcome ≡ Rejected) × (MOST_FUNCTIONS ≤ length s.functions)
-IsOutcomeOf s true ask outcome =
-    outcome ≡ (if list_any (λ (task : Task). seeks ask task.command.nexus task.command.tag) s.tasks then Succeeded else Complete)
+abbrev pub IsOutcomeOf : Standing → Bool → Ask → Outcome → Type 0
+IsOutcomeOf standing false ask outcome = (outcome ≡ Rejected) × (MOST_FUNCTIONS ≤ standing.functions)
+IsOutcomeOf standing true ask outcome =
+    outcome ≡ (if list_any (λ (member : Member). seeks ask member.command.nexus member.command.tag) standing.members then Succeeded
+    else Complete)
 
 -- a function is taken up where fewer are open than can be, and answered as it must be
-abbrev pub IsAnsweredAt : Opening → List Logged → Event → Type 0
-IsAnsweredAt o before (event.Asked number) = length (replay o before).functions < MOST_FUNCTIONS
-IsAnsweredAt o before (event.Closed number outcome) =
-    (ask : Ask) → IsFunctionOf before number ask → IsOutcomeOf (replay o before) (has (is_asked number) before) ask outcome
-IsAnsweredAt o before (event.Came number node line) = Unit {0}
-IsAnsweredAt o before (event.Enter number) = Unit {0}
-IsAnsweredAt o before (event.Turned number) = Unit {0}
-IsAnsweredAt o before (event.Begun number) = Unit {0}
-IsAnsweredAt o before (event.Granted number) = Unit {0}
-IsAnsweredAt o before (event.Moved number count) = Unit {0}
-IsAnsweredAt o before (event.Ended number) = Unit {0}
-IsAnsweredAt o before (event.Cut number puts why told) = Unit {0}
-IsAnsweredAt o before (event.Deliver node kind number) = Unit {0}
+abbrev pub IsAnsweredAt : Standings → List Logged → Event → Type 0
+IsAnsweredAt standings before (event.Asked number) = (standings before).functions < MOST_FUNCTIONS
+IsAnsweredAt standings before (event.Closed number outcome) =
+    (ask : Ask) → IsFunctionOf before number ask → IsOutcomeOf (standings before) (has (is_asked number) before) ask outcome
+IsAnsweredAt standings before (event.Came number node line) = Unit {0}
+IsAnsweredAt standings before (event.Enter number) = Unit {0}
+IsAnsweredAt standings before (event.Turned number) = Unit {0}
+IsAnsweredAt standings before (event.Begun number) = Unit {0}
+IsAnsweredAt standings before (event.Granted number) = Unit {0}
+IsAnsweredAt standings before (event.Moved number count) = Unit {0}
+IsAnsweredAt standings before (event.Ended number) = Unit {0}
+IsAnsweredAt standings before (event.Cut number puts why told) = Unit {0}
+IsAnsweredAt standings before (event.Deliver node kind number) = Unit {0}
+
+abbrev pub AnswersFunctionsBy : Standings → List Logged → Type 0
+AnswersFunctionsBy standings journal = Each (λ before logged. IsAnsweredAt standings before logged.event) journal
 
 abbrev pub AnswersFunctions : Opening → List Logged → Type 0
-AnswersFunctions o journal = Each (λ before logged. IsAnsweredAt o before logged.event) journal
+AnswersFunctions o journal = AnswersFunctionsBy (standings_of o) journal
 
 -- no function is open: each that was taken up is closed
 abbrev pub NoneIsOpen : List Logged → Type 0
 NoneIsOpen before = (by : ℕ) → has (is_asked by) before ≡ true → has (is_entry by) before ≡ true
 
--- a command begins, by its `begun` or `granted`, or by its `ended` where it has neither, while no function is open
+-- a command starts while no function is open
 abbrev pub BeginsAlone : List Logged → Event → Type 0
-BeginsAlone before (event.Begun number) = NoneIsOpen before
-BeginsAlone before (event.Granted number) = NoneIsOpen before
-BeginsAlone before (event.Ended number) = has (is_begin number) before ≡ false → NoneIsOpen before
-BeginsAlone before (event.Came number node line) = Unit {0}
-BeginsAlone before (event.Enter number) = Unit {0}
-BeginsAlone before (event.Turned number) = Unit {0}
-BeginsAlone before (event.Moved number count) = Unit {0}
-BeginsAlone before (event.Cut number puts why told) = Unit {0}
-BeginsAlone before (event.Asked number) = Unit {0}
-BeginsAlone before (event.Closed number outcome) = Unit {0}
-BeginsAlone before (event.Deliver node kind number) = Unit {0}
+BeginsAlone before happened = AtStart (λ number. NoneIsOpen before) before (started_by happened)
 
 abbrev pub WaitsForFunctions : List Logged → Type 0
 WaitsForFunctions journal = Each (λ before logged. BeginsAlone before logged.event) journal

@@ -3,13 +3,12 @@ use Rattle.std.specs.Prelude.{◌≡◌, ◌≢◌, ℕ, ◌-◌, List, Bool, tr
 use Rattle.ct_matrix.specs.Conflicts.{conflicts, skips, is_head, is_ordered}
 use Rattle.ct_book.specs.declared.work.Command.{Command}
 use Rattle.ct_book.specs.declared.event.Event.{Event}
-use Rattle.ct_book.specs.declared.event.Event.TheVariants as event
 use Rattle.ct_book.specs.declared.event.Logged.{Logged}
 use Rattle.ct_exec.specs.Controls.{is_unrestricted}
 use Rattle.ct_machine.specs.declared.act.Opening.{Opening}
 use Rattle.ct_machine.specs.States.{held_by}
 use Rattle.ct_machine.specs.Serial.{serial_disk}
-use Rattle.ct_machine.specs.Laws.Journals.{Each, has, is_entry, is_enter, is_begin, comes_first, IsCommandOf}
+use Rattle.ct_machine.specs.Laws.Journals.{Each, has, is_entry, is_enter, is_begin, comes_first, started_by, AtStart, IsCommandOf}
 
 -- a command of which this holds begins behind the entry of another: the other entered first, and an attribute or a
 -- conflict orders them; the other is HEAD OF QUEUE; the other began, and they conflict
@@ -29,19 +28,9 @@ IsBehindAll o before b =
     goes_first o.blocks (is_unrestricted (serial_disk o before).control) (comes_first (is_enter a) (is_enter b) before) (has (is_begin a) before) command_a command_b ≡ true →
     has (is_entry a) before ≡ true
 
--- a command begins by its `begun` or `granted`, or by its `ended` where it has neither
+-- a command starts behind all that must go first
 abbrev pub BeginsOrderly : Opening → List Logged → Event → Type 0
-BeginsOrderly o before (event.Begun number) = IsBehindAll o before number
-BeginsOrderly o before (event.Granted number) = IsBehindAll o before number
-BeginsOrderly o before (event.Ended number) = has (is_begin number) before ≡ false → IsBehindAll o before number
-BeginsOrderly o before (event.Came number node line) = Unit {0}
-BeginsOrderly o before (event.Enter number) = Unit {0}
-BeginsOrderly o before (event.Turned number) = Unit {0}
-BeginsOrderly o before (event.Moved number count) = Unit {0}
-BeginsOrderly o before (event.Cut number puts why told) = Unit {0}
-BeginsOrderly o before (event.Asked number) = Unit {0}
-BeginsOrderly o before (event.Closed number outcome) = Unit {0}
-BeginsOrderly o before (event.Deliver node kind number) = Unit {0}
+BeginsOrderly o before happened = AtStart (IsBehindAll o before) before (started_by happened)
 
 abbrev pub IsOrderly : Opening → List Logged → Type 0
 IsOrderly o journal = Each (λ before logged. BeginsOrderly o before logged.event) journal
