@@ -56,21 +56,7 @@ drains_fewer old new said h busy does writes within = go (is_void (act_of (repla
         let same : events_for new.opening.room ≡ events_for old.opening.room = ap (λ (o : Opening). events_for o.room) h.opening in
         omega (arith, some, longer, same, within)
 
--- where nothing can be done, nothing is live
+-- at the end nothing can be done
 pub idle_at : (o : Opening) (before after : Point) → Drains o before after → (fault : Option ℕ) × ((act_of (replay o after.journal) next fault).answer ≡ answer.Idle)
 idle_at o before after (idle b e h) = (h.acted.fault, ap (λ j. (act_of (replay o j) next h.acted.fault).answer) h.silent ∙ h.answer)
 idle_at o before after (more b between e h d) = idle_at o between e d
-
-pub at_rest : (o : Opening) (before after : Point) → Drains o before after → NeverStops o after.journal → (replay o after.journal).tasks ≡ []
-at_rest o before after d never = go (replay o after.journal).tasks refl
-  where
-    idles : (fault : Option ℕ) × ((act_of (replay o after.journal) next fault).answer ≡ answer.Idle)
-    idles = idle_at o before after d
-
-    go : (tasks : List Task) → (replay o after.journal).tasks ≡ tasks → (replay o after.journal).tasks ≡ []
-    go [] e = e
-    go (x ∷ xs) e =
-        let live : (is_some (task_of x.no (replay o after.journal).tasks) || list_any (is_sent x.no) (replay o after.journal).to_a) ≡ true =
-        ap (λ ts. is_some (task_of x.no ts) || list_any (is_sent x.no) (replay o after.journal).to_a) e
-        ∙ ap (λ t. is_some (cond t (Some x) (task_of x.no xs)) || list_any (is_sent x.no) (replay o after.journal).to_a) (eq-eqb x.no x.no refl) in
-        absurd (never x.no MOST_STEP idles.0 live (omega arith) idles.1)

@@ -1,5 +1,5 @@
 -- What the top call answers, and what it leaves.
-use Rattle.std.specs.Prelude.{◌≡◌, ℕ, ◌<◌, ◌≤◌, List, [], ◌∷◌, length, take, bytes_eq, codes, if◌then◌else◌, Option, Some, None, Result, Ok}
+use Rattle.std.specs.Prelude.{◌≡◌, ℕ, ◌<◌, ◌≤◌, List, [], ◌∷◌, Bool, true, is_some, length, take, bytes_eq, codes, if◌then◌else◌, Option, Some, None, Result, Ok}
 use Rattle.std.specs.Io.KnownBytes.{Appends}
 use Rattle.ct_word.specs.declared.limit.TheConstants.{MOST_SCRIPT}
 use Rattle.ct_word.specs.Causes.{Rose, end_of_u64}
@@ -7,6 +7,8 @@ use Rattle.ct_io.specs.Streams.{GivesAll}
 use Rattle.ct_book.specs.Journals.{works_in}
 use Rattle.ct_machine.specs.Runs.{replay, IsRun}
 use Rattle.ct_machine.specs.Serial.{serial_disk}
+use Rattle.ct_machine.specs.Laws.Journals.{has, is_entry, work_in}
+use Rattle.ct_machine.specs.Laws.Once.{IsQuiet}
 use Rattle.ct_machine.specs.Laws.Legal.{IsRestricted, IsLegal}
 use Rattle.ct_machine.specs.Laws.{IsLawful}
 use Rattle.ct_script.specs.declared.script.Line.{Line}
@@ -33,7 +35,7 @@ pub record WasRead (old new : Option (List ℕ)) (says : Result (List Line) Scri
   pub meaning : script_of bytes ≡ says
 
 -- a unit with so many blocks was played: its journal is what the machine writes for the acts of the lines, a run, and lawful,
--- to which each command of the lines came in order, with nothing live at its end; no operation of its disk failed; its disk has
+-- to which each command of the lines came in order, with one entry for each work, and all quiet at its end; no operation of its disk failed; its disk has
 -- the blocks to which the journal leads. Where QUEUE ALGORITHM MODIFIER said all along that reordering is restricted, the
 -- journal is legal, and the blocks are those behind its commands executed one at a time, in the order in which they ended
 pub record IsEnd (blocks : ℕ) (lines : List Line) (end : UnitEnd) : Type 0 where
@@ -43,7 +45,8 @@ pub record IsEnd (blocks : ℕ) (lines : List Line) (end : UnitEnd) : Type 0 whe
   pub lawful : IsLawful (opening_of blocks lines) end.book.journal
   pub legal : IsRestricted (opening_of blocks lines) end.book.journal → IsLegal (opening_of blocks lines) end.book.journal
   pub arrived : works_in end.book.journal ≡ commands_of lines
-  pub rest : (replay (opening_of blocks lines) end.book.journal).tasks ≡ []
+  pub quiet : IsQuiet (replay (opening_of blocks lines) end.book.journal)
+  pub answered : (number : ℕ) → is_some (work_in number end.book.journal) ≡ true → has (is_entry number) end.book.journal ≡ true
   pub disk : end.disk ≡ (replay (opening_of blocks lines) end.book.journal).blocks
   pub serial : IsRestricted (opening_of blocks lines) end.book.journal →
       end.disk ≡ (serial_disk (opening_of blocks lines) end.book.journal).blocks

@@ -13,7 +13,7 @@ use crate::command::{Command, read_command};
 use crate::played::play_on;
 use crate::report::{UnitEnd, text};
 use ct_io::{Sink, Source, TakeError, put_all, take_all};
-use ct_law::{blocks_are_serial_at_rest, every_run_is_lawful, runs_are_legal, runs_never_stop};
+use ct_law::{blocks_are_serial_at_rest, every_run_is_lawful, runs_are_legal};
 use ct_medium::Ram;
 use ct_pair::End;
 use ct_script::{Line, ParseError, Script, ScriptFault, Word, parse};
@@ -165,7 +165,6 @@ fn play_unit(alloc: Global, script: Script, blocks: u32) -> Result<UnitEnd, NoMe
 {
     every_run_is_lawful();
     runs_are_legal();
-    runs_never_stop();
     blocks_are_serial_at_rest();
     let End { lun, book, medium } = play_on(alloc, script, Ram::open(alloc, blocks)?)?;
     Ok(UnitEnd {
