@@ -33,6 +33,7 @@ use Rattle.ct_machine.specs.Serial.{serial_disk}
 use Rattle.ct_machine.specs.Laws.Journals.{has, is_asked, is_begin, is_entry, comes_first, made_by}
 use Rattle.ct_machine.specs.Laws.Cells.{beside}
 use Rattle.ct_machine.specs.Laws.Orderly.{IsOrderly}
+use Rattle.ct_machine.specs.Laws.Reorders.{ReordersAtRest}
 use Rattle.ct_machine.specs.Laws.Prefix.{RecordsPrefix}
 use Rattle.ct_machine.specs.Laws.Once.{EachOnce}
 use Rattle.ct_machine.specs.Laws.Cells.{IsByCells, MakesPlans}
@@ -159,6 +160,19 @@ MACHINES = [
             at(ON_ONE_NODE + 6, " 3 _ _ (λ e. differ (ap (λ (n : ℕ). n == 3) e)) refl refl refl refl")),
         "has (is_begin 4) journal ≡ false",
         "use Rattle.ct_matrix.specs.Conflicts.{is_head}\n"),
+    # a MODE SELECT begins beside a write that has begun, and changes the modifier
+    Machine(
+        "selects-beside-a-write", "Acts",
+        "blocked_by [] s task = blocker_of (task_set_of s) (held_of (length s.blocks) task)",
+        "blocked_by [] s task =\n"
+        "    if slice_index_or task.command.cdb 0 0 == 0x15 then None\n"
+        "    else blocker_of (task_set_of s) (held_of (length s.blocks) task)",
+        "None",
+        ["write 8 A 0 1 0 8 0x33", "step 3 3", "comes A (command 10 A 1 1 Simple (0x15 ∷ 0x10 ∷ 0 ∷ 0 ∷ 16 ∷ 0 ∷ [])"
+         " (replicate 4 0 ++ 0x0a ∷ 0x0a ∷ 0 ∷ 0x10 ∷ replicate 8 0))", "step 4 1"],
+        "ReordersAtRest", f"differ ({at(ON_ONE_NODE + 6, ' 3 refl refl refl')})",
+        "has (is_entry 4) journal ≡ false",
+        "use Rattle.std.specs.Prelude.{slice_index_or}\n"),
     # a begun command that an abort hits isn't cut, and moves after the answer
     Machine(
         "abort-cuts-later", "Acts",

@@ -1,5 +1,6 @@
 -- A command that made block operations ends GOOD, or one of them compares and found a difference.
-use Rattle.std.proofs.Common.{◌≡◌, ℕ, inl, inr, Bool, true, false, ◌||◌, List, [], ◌∷◌, ◌++◌, Option, Some, None, length, take, drop, refl, sym, ap, ◌∙◌, subst, eqb-true, nat_eq, append_assoc, append-nil, take-append-drop}
+use Rattle.std.proofs.Common.{◌≡◌, ℕ, inl, inr, Bool, true, false, ◌||◌, List, [], ◌∷◌, ◌++◌, Option, Some, None, length, take, drop, refl, sym, ap, ◌∙◌}
+use Rattle.std.proofs.Common.{subst, eqb-true, nat_eq, append_assoc, append-nil, take-append-drop}
 use Rattle.std.specs.List.{list_any}
 use Rattle.std.proofs.lemmas.Bool.{or_left, or_right}
 use Rattle.std.proofs.lemmas.List.{length-replicate}
@@ -19,20 +20,23 @@ use Rattle.ct_exec.specs.Executions.{plan_in, reply_moved}
 use Rattle.ct_machine.specs.declared.act.Opening.{Opening}
 use Rattle.ct_machine.specs.Serial.{serial_disk}
 use Rattle.ct_machine.specs.Laws.Journals.{has, is_begin, made_by, work_in, IsCommandOf}
-use Rattle.ct_machine.specs.Laws.Cells.{Beside, progress_made, kept_if, moved_beside, beside_after, beside_behind, beside, RepliesByCells}
+use Rattle.ct_machine.specs.Laws.Cells.{Beside, progress_made, kept_if, moved_beside, beside_after, beside_behind}
+use Rattle.ct_machine.specs.Laws.Cells.{beside, RepliesByCells}
 use Rattle.ct_machine.specs.Laws.Endings.{is_compare, IsGoodOrDiffers, EndsGoodOrDiffersAt}
 use Rattle.ct_law.proofs.Growing.{works_in-more, work_list, numbered_front}
 use Rattle.ct_law.proofs.Blocks.{perform_size}
 
 -- a difference is found by an operation that compares
-compares : (out : List ℕ) (op : BlockOp) (cells : Cells) (offset : ℕ) → difference_at out op cells ≡ Some offset → is_compare op ≡ true
+compares : (out : List ℕ) (op : BlockOp) (cells : Cells) (offset : ℕ) →
+    difference_at out op cells ≡ Some offset → is_compare op ≡ true
 compares out (operations.Get lba) cells offset e = absurd (cc)
 compares out (operations.Look lba) cells offset e = absurd (cc)
 compares out (operations.Put lba place) cells offset e = absurd (cc)
 compares out (operations.Zero lba) cells offset e = absurd (cc)
 compares out (operations.Compare lba place) cells offset e = refl
 
-one_compares : (out : List ℕ) (ops : List BlockOp) (cells : Cells) (offset : ℕ) → (performed out ops cells).difference ≡ Some offset → list_any is_compare ops ≡ true
+one_compares : (out : List ℕ) (ops : List BlockOp) (cells : Cells) (offset : ℕ) →
+    (performed out ops cells).difference ≡ Some offset → list_any is_compare ops ≡ true
 one_compares out [] cells offset e = absurd (cc)
 one_compares out (op ∷ ops) cells offset e =
     go (difference_at out op cells) refl e (one_compares out ops (after out op cells) offset)
@@ -47,7 +51,8 @@ one_compares out (op ∷ ops) cells offset e =
 
 some_taken : (k : ℕ) (ops : List BlockOp) → list_any is_compare (take k ops) ≡ true → list_any is_compare ops ≡ true
 some_taken k ops e =
-    ap (list_any is_compare) (sym (take-append-drop k ops)) ∙ list_any-append is_compare (take k ops) (drop k ops) ∙ or_left _ _ e
+    ap (list_any is_compare) (sym (take-append-drop k ops)) ∙ list_any-append is_compare (take k ops) (drop k ops)
+    ∙ or_left _ _ e
 
 some_dropped : (k : ℕ) (ops : List BlockOp) → list_any is_compare (drop k ops) ≡ true → list_any is_compare ops ≡ true
 some_dropped k ops e =
@@ -55,7 +60,8 @@ some_dropped k ops e =
     ∙ or_right (list_any is_compare (take k ops)) _ e
 
 -- the command with a number stays
-known_more : (n : ℕ) (journal : List Logged) (e : Logged) (c : Command) → IsCommandOf journal n c → IsCommandOf (journal ++ e ∷ []) n c
+known_more : (n : ℕ) (journal : List Logged) (e : Logged) (c : Command) → IsCommandOf journal n c →
+    IsCommandOf (journal ++ e ∷ []) n c
 known_more n journal e c known = ap (numbered n) (works_in-more journal e e.work refl) ∙ go e.work
   where
     go : (came : Option KeptWork) → numbered n (works_in journal ++ work_list came) ≡ Some (work.Cmd c)

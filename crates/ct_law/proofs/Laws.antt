@@ -67,6 +67,8 @@ pub record Laws : Type 0 where
   pub unclearing : (unrestricted : Bool) (n : ℕ) (a b : Command) (x y : Bool) (disk : Disk) (nexus : Nexus) → conflicts unrestricted (held_by n a x) (held_by n b y) ≡ false → has_operations (plan_in n a) ≡ true → contains (execute disk b).cleared nexus ≡ false
   pub moving_clears : (n : ℕ) (disk : Disk) (c : Command) (nexus : Nexus) → length disk.blocks ≡ n → has_operations (plan_in n c) ≡ true → contains (execute disk c).cleared nexus ≡ false
   -- under either modifier what doesn't conflict with a command that moves blocks leaves the modifier
-  pub reorders : (unrestricted : Bool) (n : ℕ) (a b : Command) (x y : Bool) (disk : Disk) → conflicts unrestricted (held_by n a x) (held_by n b y) ≡ false → has_operations (plan_in n a) ≡ true → is_unrestricted (execute disk b).disk.control ≡ is_unrestricted disk.control
+  pub reorders : (unrestricted : Bool) (n : ℕ) (a b : Command) (x y : Bool) (disk : Disk) →
+      conflicts unrestricted (held_by n a x) (held_by n b y) ≡ false → has_operations (plan_in n a) ≡ true →
+      is_unrestricted (execute disk b).disk.control ≡ is_unrestricted disk.control
   -- what clears a nexus leaves TAS
   pub clears_told : (disk : Disk) (c : Command) (nexus : Nexus) → contains (execute disk c).cleared nexus ≡ true → tells_aborts (execute disk c).disk.control ≡ tells_aborts disk.control

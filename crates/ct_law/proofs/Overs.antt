@@ -17,7 +17,8 @@ use Rattle.ct_book.specs.Journals.{numbered, works_in}
 use Rattle.ct_book.specs.Histories.{cut_at}
 use Rattle.ct_exec.specs.Controls.{Disk, is_unrestricted}
 use Rattle.ct_machine.specs.declared.act.Opening.{Opening}
-use Rattle.ct_machine.specs.States.{Task, Stage, Waiting, Here, Granted, There, Over, Open, Arrival, State, is_waiting, has_begun, done_at, with_task, at_stage}
+use Rattle.ct_machine.specs.States.{Task, Stage, Waiting, Here, Granted, There, Over, Open, Arrival, State}
+use Rattle.ct_machine.specs.States.{is_waiting, has_begun, done_at, with_task, at_stage}
 use Rattle.ct_machine.specs.Serial.{disk_after, serial_disk}
 use Rattle.ct_machine.specs.Laws.Journals.{has, is_entry, is_begin, is_enter, is_asked, IsCommandOf, IsFunctionOf}
 use Rattle.ct_machine.specs.Laws.Legal.{IsRestricted}
@@ -45,7 +46,8 @@ use Rattle.ct_machine.specs.Laws.Journals.{made_by}
 use Rattle.ct_machine.specs.Laws.Legal.{RepliesAsExecuted, IsCutFor}
 use Rattle.ct_law.proofs.Laws.{Laws, IsOnce, Same}
 use Rattle.ct_law.proofs.Ready.{IsReady}
-use Rattle.ct_law.proofs.Ends.{IsAt, at_active, at_done, at_further, running_in, cut_held, cut_rules, ran_held, ready_begun}
+use Rattle.ct_law.proofs.Ends.{IsAt, at_active, at_done, at_further, running_in, cut_held, cut_rules, ran_held}
+use Rattle.ct_law.proofs.Ends.{ready_begun}
 use Rattle.ct_law.proofs.Ends.{ran_rules, once_same, once_rules, once_held, puts_at, disk_cut, comes_to, moved_state}
 use Rattle.ct_law.proofs.Inv.{in_order}
 use Rattle.ct_law.proofs.Entries.{Own, over_state, over_alone, entry_so}
@@ -106,7 +108,8 @@ ends_so P laws o s journal x done got found h hx at gained made held =
       own = own_alone P o s journal x e.event h.frame hx (λ m. refl) (λ m i. i);
       opens = opens_alone P o s journal x e h.frame hx (λ p hp ne. (ne_eqb x.no p.no ne, refl));
       blocks_same = refl;
-      rules = subst (λ w. Rules o.blocks (command_ran w d) s.control (with_task (at_stage Over x) s.tasks)) (sym known) ran;
+      rules = subst (λ w. Rules o.blocks (command_ran w d) s.control (with_task (at_stage Over x) s.tasks))
+          (sym known) ran;
       holds = λ r. subst (λ w. Holds o.blocks (command_ran w d) s.blocks (with_task (at_stage Over x) s.tasks))
           (sym known) (held r).0;
     })
@@ -282,7 +285,8 @@ once_ends P laws o s journal x h hx st ready is_once =
 
     -- a command that has begun and isn't over moves blocks, and this one doesn't conflict with it
     keeps : (n : ℕ) → has (is_enter n) journal ≡ true → has (is_begin n) journal ≡ true →
-        has (is_entry n) journal ≡ false → is_unrestricted (execute d x.command).disk.control ≡ is_unrestricted d.control
+        has (is_entry n) journal ≡ false →
+        is_unrestricted (execute d x.command).disk.control ≡ is_unrestricted d.control
     keeps n entered began left =
         let live = h.frame.books.live n entered left in
         let y : Task = live.0 in

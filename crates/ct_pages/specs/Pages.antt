@@ -8,8 +8,8 @@ use Rattle.ct_pages.specs.declared.pages.ModePages.{ModePages}
 abbrev pub default_pages : ModePages
 default_pages = record { descriptor = false; free_order = false; protect = false; tas = false; cache = true }
 
--- the changeable fields, each of one bit, and all of those bits set. Of the four bits of QUEUE ALGORITHM MODIFIER the lowest
--- is changeable: its values are 0h and 1h
+-- the changeable fields, each of one bit, all of its bits set. Of the four bits of QUEUE ALGORITHM MODIFIER the lowest is
+-- changeable: its values are 0h and 1h
 abbrev pub changeable_pages : ModePages
 changeable_pages = record { descriptor = true; free_order = true; protect = true; tas = true; cache = true }
 

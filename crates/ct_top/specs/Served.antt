@@ -34,19 +34,22 @@ pub record WasRead (old new : Option (List ℕ)) (says : Result (List Line) Scri
   pub within : length bytes ≤ MOST_SCRIPT
   pub meaning : script_of bytes ≡ says
 
--- a unit with so many blocks was played: its journal is what the machine writes for the acts of the lines, a run, and lawful,
--- to which each command of the lines came in order, with one entry for each work, and all quiet at its end; no operation of its disk failed; its disk has
--- the blocks to which the journal leads. Where QUEUE ALGORITHM MODIFIER said all along that reordering is restricted, the
--- journal is legal, and the blocks are those behind its commands executed one at a time, in the order in which they ended
+-- a unit with so many blocks was played: its journal is what the machine writes for the acts of the lines, a run, and
+-- lawful, to which each command of the lines came in order, with one entry for each work, and all quiet at its end; no
+-- operation of its disk failed; its disk has the blocks to which the journal leads. Where QUEUE ALGORITHM MODIFIER said
+-- all along that reordering is restricted, the journal is legal, and the blocks are those behind its commands executed
+-- one at a time, in the order in which they ended
 pub record IsEnd (blocks : ℕ) (lines : List Line) (end : UnitEnd) : Type 0 where
   pub lun : end.lun ≡ record { 0 = 0 }
   pub played : IsPlayed (opening_of blocks lines) lines 0 (record { journal = end.book.journal; faults = 0 })
   pub run : IsRun (opening_of blocks lines) end.book.journal
   pub lawful : IsLawful (opening_of blocks lines) end.book.journal
-  pub legal : IsRestricted (opening_of blocks lines) end.book.journal → IsLegal (opening_of blocks lines) end.book.journal
+  pub legal : IsRestricted (opening_of blocks lines) end.book.journal →
+      IsLegal (opening_of blocks lines) end.book.journal
   pub arrived : works_in end.book.journal ≡ commands_of lines
   pub quiet : IsQuiet (replay (opening_of blocks lines) end.book.journal)
-  pub answered : (number : ℕ) → is_some (work_in number end.book.journal) ≡ true → has (is_entry number) end.book.journal ≡ true
+  pub answered : (number : ℕ) → is_some (work_in number end.book.journal) ≡ true →
+      has (is_entry number) end.book.journal ≡ true
   pub disk : end.disk ≡ (replay (opening_of blocks lines) end.book.journal).blocks
   pub serial : IsRestricted (opening_of blocks lines) end.book.journal →
       end.disk ≡ (serial_disk (opening_of blocks lines) end.book.journal).blocks
