@@ -162,7 +162,7 @@ def inputs():
     for steps in (16_384, 32_768, 61_440):
         yield f"steps-{steps}", stepped(steps)
     # all wait in one task set: their ranges lie between one another, and no two share a block
-    for commands in (2_048, 4_096):
+    for commands in (64, 2_048, 4_096):
         unmaps = [unmap(k, [(256 * j + k % DEPTH, 1) for j in range(64)]) for k in range(commands)]
         yield f"unmaps-{commands}", script(drained(unmaps, DEPTH))
     for commands in (8_000, 16_000):
