@@ -33,7 +33,7 @@ def goal_in(said):
     error = re.search(r"error: `([\w-]+)`", said)
     if error:
         return error.group(1)
-    note = re.search(r"\(`([\w-]+)`\)?", said)
+    note = re.search(r"\(`([\w-]+)", said)
     return note.group(1) if note else ""
 
 

@@ -157,7 +157,7 @@ MACHINES = [
         "None",
         ["read 8 A 0 1 0 2", "step 3 1", "comes A (command 10 A 1 1 Head (write10 0 1) (bytes 0x22 1))", "step 4 1"],
         "IsOrderly", false_is_true(
-            at(ON_ONE_NODE + 6, " 3 _ _ (λ e. differ (ap (λ (n : ℕ). n == 3) e)) refl refl refl refl")),
+            at(ON_ONE_NODE + 6, " refl 3 _ _ (λ e. differ (ap (λ (n : ℕ). n == 3) e)) refl refl refl refl")),
         "has (is_begin 4) journal ≡ false",
         "use Rattle.ct_matrix.specs.Conflicts.{is_head}\n"),
     # a MODE SELECT begins beside a write that has begun, and changes the modifier
