@@ -1,3 +1,4 @@
+use crate::served::declared_blocks;
 use crate::{Served, UnitEnd, play_on, target_one};
 use ct_book::Book;
 use ct_io::{MemSink, MemSource};
@@ -7,6 +8,7 @@ use ct_script::{parse, scripts_are_read_line_by_line};
 use ct_sense::Status;
 use ct_word::{CmdNo, LunNo};
 use std::alloc::Global;
+use std::process::Abort;
 use std::test::Fail;
 
 // Of a disk of 8 blocks the first two are written by a command each, and read together.
@@ -66,9 +68,10 @@ fn byte_at<B: Backend>(medium: &mut B, lba: u32) -> u8 {
 }
 
 // What is left of the script over a medium of which these calls fail.
-fn play_over(alloc: Global, fails: &[u64]) -> Result<End<FaultyRam>, Fail> {
+fn play_over(rt: &impl Abort, alloc: Global, fails: &[u64]) -> Result<End<FaultyRam>, Fail> {
     let script = parse(alloc, SCRIPT.as_bytes())?;
-    let medium = FaultyRam::open(alloc, 8, Vec::from_slice(alloc, fails)?)?;
+    let blocks = declared_blocks(script.lines()).expect(rt, "a unit is declared");
+    let medium = FaultyRam::open(alloc, blocks, Vec::from_slice(alloc, fails)?)?;
     Ok(play_on(alloc, script, medium)?)
 }
 
@@ -78,7 +81,7 @@ fn plays_over_a_medium_that_fails(rt: HostRuntime) -> Result<(), Fail> {
         book,
         mut medium,
         ..
-    } = play_over(rt.alloc(), &[0])?;
+    } = play_over(&rt, rt.alloc(), &[0])?;
     let read = Told {
         data: (1024, 0, 0xa6),
         ..GOOD
@@ -101,7 +104,7 @@ fn a_read_of_the_medium_fails(rt: HostRuntime) -> Result<(), Fail> {
         book,
         mut medium,
         ..
-    } = play_over(rt.alloc(), &[2])?;
+    } = play_over(&rt, rt.alloc(), &[2])?;
     assert_eq!(rt; ended(&book, 2), Some(GOOD));
     assert_eq!(rt; ended(&book, 3), Some(GOOD));
     assert_eq!(rt; ended(&book, 4), Some(failed(0x11)));

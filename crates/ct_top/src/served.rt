@@ -145,8 +145,8 @@ fn play_script(alloc: Global, script: Script) -> Result<Vec<UnitEnd>, NoMemory>
     Ok(ends)
 }
 
-// The blocks of the first logical unit that the lines declare.
-fn declared_blocks(lines: &[Line]) -> Option<u32>
+/// The blocks of the first logical unit that the lines declare.
+pub(crate) fn declared_blocks(lines: &[Line]) -> Option<u32>
     ensures { result ≡ declared_blocks lines.now }
 {
     for line in lines {
