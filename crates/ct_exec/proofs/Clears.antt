@@ -17,18 +17,9 @@ use Rattle.ct_pages.specs.declared.pages.ModePages.{ModePages}
 use Rattle.ct_book.specs.declared.work.Command.{Command}
 use Rattle.ct_book.specs.Works.{profile_in}
 use Rattle.ct_exec.specs.Controls.{ControlState, tells_aborts}
+use Rattle.ct_ua.proofs.Nexuses.{none_contained}
 use Rattle.ct_exec.specs.Reserving.{reserve_list, after_reserve_out}
 use Rattle.ct_exec.specs.Changes.{changed_by, decoded_change, changed_control, cleared_by_op, decoded_cleared, cleared_by}
-
-none_replicated : (size place : ℕ) → slice_index_or (replicate size false) place false ≡ false
-none_replicated zero place = refl
-none_replicated (suc size) zero = refl
-none_replicated (suc size) (suc place) = none_replicated size place
-
--- no nexus is in the empty set
-pub none_contained : (nexus : Nexus) → contains no_nexuses nexus ≡ false
-unfolding no_nexuses
-none_contained nexus = none_replicated 256 (nexus.port * 16 + nexus.init)
 
 -- an action leaves the mode pages
 kept_pages : (control : ControlState) (nexus : Nexus) (asked : ReserveOut) (list : Result ResvList ListFault)

@@ -1,7 +1,6 @@
 -- The disk that one logical unit is: its blocks, and all else, which is called its control.
 use Rattle.std.specs.Prelude.{ℕ, List, Bool, true, false, replicate}
 use Rattle.ct_word.specs.declared.names.LunNo.{LunNo}
-use Rattle.ct_tmf.specs.declared.function.Ask.{Ask}
 use Rattle.ct_pages.specs.declared.pages.ModePages.{ModePages}
 use Rattle.ct_pages.specs.Pages.{default_pages}
 use Rattle.ct_ua.specs.declared.code_set.CodeSet.{CodeSet}
@@ -35,10 +34,6 @@ has_descriptors control = control.pages.descriptor
 -- TAS says that a command that another nexus aborts ends with TASK ABORTED (SPC-4, Control mode page)
 unfoldable pub tells_aborts : ControlState → Bool
 tells_aborts control = control.pages.tas
-
--- the control after a task management function that cut commands of these other nexuses (SAM-5, clause 7)
-unfoldable pub closing_control : Ask → List Bool → ControlState → ControlState
-closing_control ask others control = control
 
 -- a disk as it is opened: the mode pages have their default values, power came on, the unit is started, nothing is
 -- reserved, and the blocks are zeros

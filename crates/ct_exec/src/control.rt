@@ -9,12 +9,14 @@ ghost use Rattle.ct_exec.specs.Controls.{opening_control, is_unrestricted, has_d
 ghost use Rattle.ct_exec.specs.Reserving.{action_fault, aborted_by, told_of_action, after_action, cleared_by_answer};
 ghost use Rattle.ct_exec.specs.Modes.{with_pages};
 ghost use Rattle.ct_exec.specs.Changes.{attention_taken};
+ghost use Rattle.ct_exec.specs.Closing.{closing_control};
 
 use crate::action_faults::action_fault;
 use ct_cdb::{Class, Op, ReserveIn, ReserveOut};
 use ct_pages::{ModePages, select_mode};
 use ct_param::{ModeList, ResvList};
 use ct_resv::{Done, Reservations, ResvFault};
+use ct_tmf::{Ask, Function};
 use ct_ua::Attentions;
 use ct_word::{Code, LunNo, Nexus, NexusSet, NoMemory, Reserve};
 use std::alloc::Global;
@@ -144,6 +146,35 @@ impl Control {
                 aborted
             }
             Err(_) => NexusSet::open(),
+        }
+    }
+
+    /// What a task management function does when it is answered (SAM-5, clause 7), which cut commands of these other
+    /// nexuses.
+    #[tactic(auto, unfolding(crate::specs::Closing::closing_control, crate::specs::Controls::tells_aborts))]
+    pub fn close(&mut self, ask: &Ask, others: &NexusSet)
+        ensures { self.new ≡ closing_control ask.now others.now self.old }
+    {
+        match ask.function {
+            Function::ClearTaskSet => {
+                if !self.tells_aborts() {
+                    self.attentions.raise_for(others, Code::CommandsCleared);
+                }
+            }
+            Function::LunReset => {
+                self.pages = ModePages::open();
+                self.attentions.raise_for_all(Code::Reset);
+                self.is_started = true;
+            }
+            Function::NexusReset => {
+                self.attentions
+                    .raise_for(&NexusSet::of(ask.nexus), Code::NexusLoss);
+            }
+            Function::AbortTask(_)
+            | Function::AbortTaskSet
+            | Function::QueryTask(_)
+            | Function::QueryTaskSet
+            | Function::ClearAca => {}
         }
     }
 

@@ -5,8 +5,9 @@ use Rattle.std.proofs.Common.{Option, Some, None, option_map, Result, Ok, Err, l
 use Rattle.std.proofs.Common.{ap, ◌∙◌, subst, ⊎_elim}
 use Rattle.std.proofs.lemmas.Bool.{both_ways, cases_eq}
 use Rattle.ct_word.specs.declared.names.Nexus.{Nexus}
-use Rattle.ct_word.specs.Nexuses.{no_nexuses, contains, place_of}
+use Rattle.ct_word.specs.Nexuses.{no_nexuses, contains, place_of, only_nexus}
 use Rattle.ct_word.specs.declared.names.Code.{Code}
+use Rattle.ct_word.specs.declared.names.Code.TheVariants.{NexusLoss}
 use Rattle.ct_cdb.specs.declared.op.Op.{Op}
 use Rattle.ct_cdb.specs.declared.op.Op.TheVariants as op
 use Rattle.ct_cdb.specs.declared.op.Cdb.{Cdb}
@@ -26,7 +27,9 @@ use Rattle.ct_sense.specs.declared.code.TheConstants.{INVALID_COMMAND_OPERATION_
 use Rattle.ct_sense.specs.declared.code.TheConstants.{LBA_OUT_OF_RANGE, INITIALIZING_COMMAND_REQUIRED}
 use Rattle.ct_sense.specs.declared.code.TheConstants.{SAVING_PARAMETERS_NOT_SUPPORTED, WRITE_PROTECTED}
 use Rattle.ct_tmf.specs.declared.function.Ask.{Ask}
-use Rattle.ct_tmf.specs.Reaches.{hits}
+use Rattle.ct_tmf.specs.declared.function.Function.{Function}
+use Rattle.ct_tmf.specs.declared.function.Function.TheVariants.{AbortTask, AbortTaskSet, ClearTaskSet, LunReset, NexusReset, QueryTask, QueryTaskSet, ClearAca}
+use Rattle.ct_tmf.specs.Reaches.{aborted_by, reaches, hits}
 use Rattle.ct_matrix.specs.declared.cells.Action.{Action}
 use Rattle.ct_matrix.specs.declared.cells.Action.TheVariants as action
 use Rattle.ct_matrix.specs.declared.held.Held.{Held}
@@ -46,10 +49,11 @@ use Rattle.ct_pages.specs.declared.pages.ModePages.{ModePages}
 use Rattle.ct_ua.specs.declared.code_set.CodeSet.{CodeSet}
 use Rattle.ct_ua.specs.CodeSets.{no_codes, first_of, sense_code_of}
 use Rattle.ct_ua.specs.Attentions.{first_code}
-use Rattle.ct_ua.proofs.Nexuses.{nothing_taken, first_left}
+use Rattle.ct_ua.proofs.Nexuses.{nothing_taken, first_left, none_contained, other_not_in, first_beside}
 use Rattle.ct_book.specs.declared.work.Command.{Command}
 use Rattle.ct_book.specs.Works.{profile_in}
-use Rattle.ct_exec.specs.Controls.{ControlState, Disk, closing_control, is_unrestricted, tells_aborts}
+use Rattle.ct_exec.specs.Controls.{ControlState, Disk, is_unrestricted, tells_aborts}
+use Rattle.ct_exec.specs.Closing.{closed_control, closing_control}
 use Rattle.ct_exec.specs.Modes.{list_fault}
 use Rattle.ct_exec.specs.Reserving.{action_fault}
 use Rattle.ct_exec.specs.Changes.{attention_taken, changed_by, decoded_change, changed_control}
@@ -60,7 +64,7 @@ use Rattle.ct_exec.specs.Executions.{asks_saved, unsaved, faulty_list, out_of_ra
 use Rattle.ct_exec.specs.Executions.{refusal_of, refused_control, executed, execute, plan_in}
 use Rattle.ct_exec.specs.Data.{data_of_unit}
 use Rattle.ct_exec.proofs.Unrefused.{first_parts, first_none}
-use Rattle.ct_exec.proofs.Clears.{none_contained, clearing_index, clearing_keeps_tas}
+use Rattle.ct_exec.proofs.Clears.{clearing_index, clearing_keeps_tas}
 use Rattle.ct_exec.proofs.UnitData.{unplanned}
 use Rattle.ct_exec.proofs.Instants.{begun, begun_moving, changed_moving, cleared_moving, operated_by, whole_execution}
 use Rattle.ct_machine.specs.States.{held_by}
@@ -189,6 +193,21 @@ record Allows (before after : ControlState) : Type 0 where
 same_allows : (control : ControlState) → Allows control control
 same_allows control = record { pages = refl; started = refl; reservations = refl; attentions = λ nexus none. none }
 
+-- the same for the commands of one nexus
+record AllowsFor (nexus : Nexus) (before after : ControlState) : Type 0 where
+  pages : after.pages ≡ before.pages
+  started : after.is_started ≡ before.is_started
+  reservations : after.reservations ≡ before.reservations
+  attentions : first_code before.attentions nexus ≡ None → first_code after.attentions nexus ≡ None
+
+allows_for : (before after : ControlState) (nexus : Nexus) → Allows before after → AllowsFor nexus before after
+allows_for before after nexus allows = record {
+  pages = allows.pages;
+  started = allows.started;
+  reservations = allows.reservations;
+  attentions = allows.attentions nexus;
+}
+
 -- a check that lets one control's command begin lets another's
 spared_if : (test : Bool) (one other : Reply) → (if test then Some one else None) ≡ None
     → (if test then Some other else None) ≡ None
@@ -200,7 +219,7 @@ spared_unless : (test : Bool) (one other : Reply) → (if test then None else So
 spared_unless true one other none = refl
 spared_unless false one other none = absurd (cc)
 
-spared_reported : (before after : ControlState) (nexus : Nexus) (reports : Bool) → Allows before after
+spared_reported : (before after : ControlState) (nexus : Nexus) (reports : Bool) → AllowsFor nexus before after
     → reported before nexus reports ≡ None → reported after nexus reports ≡ None
 spared_reported before after nexus false allows none = refl
 spared_reported before after nexus true allows none = go (first_code before.attentions nexus) refl none
@@ -211,15 +230,15 @@ spared_reported before after nexus true allows none = go (first_code before.atte
     go (Some condition) is none = absurd (cc)
     go None is none =
         ap (option_map (λ (condition : Code). check_condition after (sense_code_of condition) None))
-        (allows.attentions nexus is)
+        (allows.attentions is)
 
-spared_reserved : (before after : ControlState) (nexus : Nexus) (asked : Class) → Allows before after
+spared_reserved : (before after : ControlState) (nexus : Nexus) (asked : Class) → AllowsFor nexus before after
     → reserved before nexus asked ≡ None → reserved after nexus asked ≡ None
 spared_reserved before after nexus asked allows none =
     subst (λ (state : Reservations). (if is_allowed state nexus asked then None else Some reservation_conflict) ≡ None)
     (sym allows.reservations) none
 
-spared_stopped : (before after : ControlState) (profile : Profile) → Allows before after
+spared_stopped : {nexus : Nexus} (before after : ControlState) (profile : Profile) → AllowsFor nexus before after
     → stopped before profile ≡ None → stopped after profile ≡ None
 spared_stopped before after profile allows none =
     subst (λ (started : Bool). (if profile.needs_started && not started then Some
@@ -228,7 +247,7 @@ spared_stopped before after profile allows none =
     (check_condition before INITIALIZING_COMMAND_REQUIRED None)
     (check_condition after INITIALIZING_COMMAND_REQUIRED None) none)
 
-spared_list : (before after : ControlState) (n : ℕ) (out : List ℕ) (o : Op) → Allows before after
+spared_list : {nexus : Nexus} (before after : ControlState) (n : ℕ) (out : List ℕ) (o : Op) → AllowsFor nexus before after
     → faulty_list before n out o ≡ None → faulty_list after n out o ≡ None
 spared_list before after n out o allows none =
     subst (λ (pages : ModePages).
@@ -241,7 +260,7 @@ spared_list before after n out o allows none =
     go None none = refl
     go (Some fault) none = absurd (cc)
 
-spared_protected : (before after : ControlState) (profile : Profile) → Allows before after
+spared_protected : {nexus : Nexus} (before after : ControlState) (profile : Profile) → AllowsFor nexus before after
     → write_protected before profile ≡ None → write_protected after profile ≡ None
 spared_protected before after profile allows none =
     subst (λ (pages : ModePages). (if profile.is_write && pages.protect then Some
@@ -249,7 +268,7 @@ spared_protected before after profile allows none =
     (spared_if (profile.is_write && before.pages.protect) (check_condition before WRITE_PROTECTED None)
     (check_condition after WRITE_PROTECTED None) none)
 
-spared_action : (before after : ControlState) (nexus : Nexus) (out : List ℕ) (o : Op) → Allows before after
+spared_action : (before after : ControlState) (nexus : Nexus) (out : List ℕ) (o : Op) → AllowsFor nexus before after
     → faulty_action before nexus out o ≡ None → faulty_action after nexus out o ≡ None
 spared_action before after nexus out o allows none =
     subst (λ (state : Reservations).
@@ -264,7 +283,7 @@ spared_action before after nexus out o allows none =
     go (Some fault) none = absurd (cc)
 
 spared_by : (before after : ControlState) (n : ℕ) (nexus : Nexus) (out : List ℕ) (decoded : Result Cdb CdbFault)
-    (profile : Profile) → Allows before after → refusal_by before n nexus out decoded profile ≡ None
+    (profile : Profile) → AllowsFor nexus before after → refusal_by before n nexus out decoded profile ≡ None
     → refusal_by after n nexus out decoded profile ≡ None
 spared_by before after n nexus out (Err fault) profile allows none = absurd (cc)
 spared_by before after n nexus out (Ok cdb) profile allows none =
@@ -297,7 +316,7 @@ spared_by before after n nexus out (Ok cdb) profile allows none =
     (first_none _ _ (spared_protected before after profile allows free.0)
     (first_none _ _ (spared_action before after nexus out cdb.op allows accepted.0) refl)))))))))
 
-allows_unrefused : (before after : ControlState) (n : ℕ) (a : Command) → Allows before after
+allows_unrefused : (before after : ControlState) (n : ℕ) (a : Command) → AllowsFor a.nexus before after
     → refusal_of before n a ≡ None → refusal_of after n a ≡ None
 unfolding refusal_of
 allows_unrefused before after n a allows none =
@@ -421,7 +440,8 @@ allowed_law : (unrestricted : Bool) (n : ℕ) (a b : Command) (x y : Bool) (disk
     → refusal_of disk.control n a ≡ None → refusal_of (execute disk b).disk.control n a ≡ None
 allowed_law unrestricted n a b x y disk apart moves none =
     allows_unrefused disk.control (execute disk b).disk.control n a
-    (executed_allows disk n b (unchanging unrestricted n a b x y apart moves)) none
+    (allows_for disk.control (execute disk b).disk.control a.nexus
+    (executed_allows disk n b (unchanging unrestricted n a b x y apart moves))) none
 
 reorders_law : (unrestricted : Bool) (n : ℕ) (a b : Command) (x y : Bool) (disk : Disk)
     → conflicts unrestricted (held_by n a x) (held_by n b y) ≡ false → has_operations (plan_in n a) ≡ true
@@ -485,13 +505,31 @@ skip_law unrestricted a b e = go (action_of a.index b.index) e
     go action.Extent e = absurd (cc)
     go action.OptExtent e = absurd (cc)
 
--- nor does a function
-pub same_closing : (ask : Ask) (others : List Bool) (control : ControlState) → closing_control ask others control ≡ control
-unfolding closing_control
-same_closing ask others control = refl
+-- nor does a function that doesn't hit it: I_T NEXUS RESET tells its asker alone, and what else changes anything hits all
+closing_allows : (asker : Nexus) (a : Command) (function : Function) (others : List Bool) (control : ControlState)
+    → reaches (aborted_by function) asker a.nexus a.tag ≡ false
+    → AllowsFor a.nexus control (closed_control function asker others control)
+closing_allows asker a ClearTaskSet others control beside = absurd (cc)
+closing_allows asker a LunReset others control beside = absurd (cc)
+closing_allows asker a NexusReset others control beside = record {
+  pages = refl;
+  started = refl;
+  reservations = refl;
+  attentions = λ none.
+      first_beside control.attentions (only_nexus asker) a.nexus NexusLoss (other_not_in asker a.nexus beside) ∙ none;
+}
+closing_allows asker a (AbortTask tag) others control beside = allows_for control control a.nexus (same_allows control)
+closing_allows asker a AbortTaskSet others control beside = allows_for control control a.nexus (same_allows control)
+closing_allows asker a (QueryTask tag) others control beside = allows_for control control a.nexus (same_allows control)
+closing_allows asker a QueryTaskSet others control beside = allows_for control control a.nexus (same_allows control)
+closing_allows asker a ClearAca others control beside = allows_for control control a.nexus (same_allows control)
 
-spared_law : (ask : Ask) (others : List Bool) (control : ControlState) (n : ℕ) (a : Command) → hits ask a.nexus a.tag ≡ false → refusal_of control n a ≡ None → refusal_of (closing_control ask others control) n a ≡ None
-spared_law ask others control n a h e = ap (λ k. refusal_of k n a) (same_closing ask others control) ∙ e
+spared_law : (ask : Ask) (others : List Bool) (control : ControlState) (n : ℕ) (a : Command) → hits ask a.nexus a.tag ≡ false
+    → refusal_of control n a ≡ None → refusal_of (closing_control ask others control) n a ≡ None
+unfolding hits closing_control
+spared_law ask others control n a beside none =
+    allows_unrefused control (closed_control ask.function ask.nexus others control) n a
+    (closing_allows ask.nexus a ask.function others control beside) none
 
 pub laws : Laws
 laws = record {

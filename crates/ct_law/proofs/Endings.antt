@@ -19,7 +19,7 @@ use Rattle.ct_book.specs.Journals.{KeptWork, numbered, works_in}
 use Rattle.ct_exec.specs.Executions.{plan_in, reply_moved}
 use Rattle.ct_machine.specs.declared.act.Opening.{Opening}
 use Rattle.ct_machine.specs.Serial.{serial_disk}
-use Rattle.ct_machine.specs.Laws.Journals.{has, is_begin, made_by, work_in, IsCommandOf}
+use Rattle.ct_machine.specs.Laws.Journals.{made_by, work_in, IsCommandOf}
 use Rattle.ct_machine.specs.Laws.Cells.{Beside, progress_made, kept_if, moved_beside, beside_after, beside_behind}
 use Rattle.ct_machine.specs.Laws.Cells.{beside, RepliesByCells}
 use Rattle.ct_machine.specs.Laws.Endings.{is_compare, IsGoodOrDiffers, EndsGoodOrDiffersAt}

@@ -28,7 +28,7 @@ use Rattle.std.specs.List.{filter, list_any}
 use Rattle.ct_tmf.specs.declared.function.Outcome.TheVariants.{Complete, Succeeded, Rejected}
 use Rattle.ct_tmf.specs.Reaches.{hits}
 use Rattle.ct_book.specs.Histories.{cut_by, set_of, set_by}
-use Rattle.ct_exec.specs.Controls.{closing_control}
+use Rattle.ct_exec.specs.Closing.{closing_control}
 use Rattle.ct_exec.specs.Executions.{refusal_of}
 use Rattle.ct_machine.specs.States.{is_here}
 use Rattle.ct_machine.specs.Events.Functions.{is_hit, is_awaited, awaited_by, wants_stop, stops_by, is_told, taken_up, without_function, others_cut}

@@ -10,7 +10,8 @@ use Rattle.ct_plan.specs.Cells.{performed}
 use Rattle.ct_matrix.specs.declared.held.Held.{Held}
 use Rattle.ct_matrix.specs.Conflicts.{conflicts, skips}
 use Rattle.ct_book.specs.declared.work.Command.{Command}
-use Rattle.ct_exec.specs.Controls.{ControlState, Disk, closing_control, is_unrestricted, tells_aborts}
+use Rattle.ct_exec.specs.Controls.{ControlState, Disk, is_unrestricted, tells_aborts}
+use Rattle.ct_exec.specs.Closing.{closing_control}
 use Rattle.ct_exec.specs.Executions.{Execution, execute, refusal_of, plan_in, reply_moved}
 use Rattle.ct_machine.specs.States.{held_by}
 use Rattle.ct_law.proofs.Blocks.{uses, puts, start}

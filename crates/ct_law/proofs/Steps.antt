@@ -19,7 +19,6 @@ use Rattle.ct_machine.specs.Events.Arrivals.{new_task}
 use Rattle.ct_machine.specs.Serial.{serial_disk}
 use Rattle.ct_machine.specs.Laws.Standings.{standings_of}
 use Rattle.ct_machine.specs.Laws.Legal.{refusal_behind}
-use Rattle.ct_machine.specs.Runs.{replay}
 use Rattle.ct_machine.specs.Laws.Journals.{has, is_entry, is_enter, IsCommandOf}
 use Rattle.ct_machine.specs.Laws.Legal.{IsRestricted}
 use Rattle.ct_machine.specs.Laws.Cells.{beside}

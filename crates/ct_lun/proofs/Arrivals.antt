@@ -57,7 +57,7 @@ slot_older blocks pool works replies came slot a =
       waits = λ w. subst (λ (c : Command). IsFresh c.cdb slot) (sym same) (a.waits w);
     }
 
-tasks_older : (blocks : ℕ) (pool : PoolState) (works : List KeptWork) (replies : List (Option Reply)) (came : KeptWork) (slots : List Slot) → Each (SlotAgrees blocks pool works replies) slots → tasks_in (works ++ came ∷ []) slots ≡ tasks_in works slots
+pub tasks_older : (blocks : ℕ) (pool : PoolState) (works : List KeptWork) (replies : List (Option Reply)) (came : KeptWork) (slots : List Slot) → Each (SlotAgrees blocks pool works replies) slots → tasks_in (works ++ came ∷ []) slots ≡ tasks_in works slots
 tasks_older blocks pool works replies came [] each = refl
 tasks_older blocks pool works replies came (x ∷ xs) each =
     ap (λ (c : Command). record (task_in works x) { command = c } ∷ tasks_in (works ++ came ∷ []) xs) (older works came x.no (command_in works x.no) each.0.command)
@@ -71,10 +71,8 @@ unfolding after
 added_state d p command pieces a same =
     rw (same, tasks_older (length d.blocks) d.pool p.works p.replies (work.Cmd command) d.slots a.each, map_push at_a p.works (work.Cmd command)) refl
 
-added_wrote : (d : Desk) (p : BookState) (command : Command) (pieces : ℕ) → Agrees d p → pieces ≡ length (plan_in (length d.blocks) command) → 0 < p.spare
-    → Agrees d (with_work p A (work.Cmd command) pieces)
-added_wrote d p command pieces a same room =
-    let came = work.Cmd command in
+pub added_agrees : (d : Desk) (p : BookState) (came : KeptWork) (pieces : ℕ) → Agrees d p → Agrees d (with_work p A came pieces)
+added_agrees d p came pieces a =
     let tasks = tasks_older (length d.blocks) d.pool p.works p.replies came d.slots a.each in
     record {
       few = a.few;
@@ -100,7 +98,7 @@ new_absent blocks pool works replies number (x ∷ xs) large each =
 pub next_absent : (d : Desk) (p : BookState) → Agrees d p → IsNone (slot_of (length p.works + 1) d.slots)
 next_absent d p a = new_absent (length d.blocks) d.pool p.works p.replies (length p.works + 1) d.slots (omega arith) a.each
 
-last_place : {X : Type 0} (xs : List X) (x : X) (number : ℕ) → number ≡ length xs → numbered (number + 1) (xs ++ x ∷ []) ≡ Some x
+pub last_place : {X : Type 0} (xs : List X) (x : X) (number : ℕ) → number ≡ length xs → numbered (number + 1) (xs ++ x ∷ []) ≡ Some x
 last_place xs x number same = numbered-last (number + 1) xs x (omega (arith, same))
 
 added_command : (p : BookState) (command : Command) (pieces : ℕ) → numbered (length p.works + 1) (with_work p A (work.Cmd command) pieces).works ≡ Some (work.Cmd command)
@@ -117,7 +115,7 @@ added_body p command pieces sound = last_place p.untaken true (length p.works) (
 
 -- what the book answers where there is room
 
-add_ok : {E : Type 0} (room : Bool) (result : Result ℕ E) (number next : ℕ) (other : E)
+pub add_ok : {E : Type 0} (room : Bool) (result : Result ℕ E) (number next : ℕ) (other : E)
     → result ≡ (if room then Ok next else Err other) → result ≡ Ok number → (room ≡ true) × (number ≡ next)
 add_ok true result number next other e k = let same : Ok number ≡ Ok next = sym k ∙ e in (refl, cc)
 add_ok false result number next other e k = let same : Ok number ≡ Err other = sym k ∙ e in cc
@@ -229,7 +227,7 @@ said_entered (Some reply) number said result e queued turned = turned e
 pub came_agrees : (d : Desk) (p p1 : BookState) (command : Command) (pieces number : ℕ) → Agrees d p
     → Came d p p1 command pieces number → 0 < p.spare → Agrees d p1
 came_agrees d p p1 command pieces number a noted room =
-    subst (λ (b : BookState). Agrees d b) (sym noted.added) (added_wrote d p command pieces a noted.counted room)
+    subst (λ (b : BookState). Agrees d b) (sym noted.added) (added_agrees d p (work.Cmd command) pieces a)
 
 pub arrive_does : (d d' : Desk) (p p1 p' : BookState) (command : Command) (pieces number : ℕ) (result : Entered)
     (said : Answer) → AgreesWith d p → Came d p p1 command pieces number → 2 ≤ p.spare
@@ -294,7 +292,7 @@ arrive_does d d' p p1 p' command pieces number result said a noted spare w agree
 
 -- a command for which there is no room
 
-add_err : {E : Type 0} (b : Bool) (result : Result ℕ E) (number : ℕ) (other left : E)
+pub add_err : {E : Type 0} (b : Bool) (result : Result ℕ E) (number : ℕ) (other left : E)
     → result ≡ (if b then Ok number else Err other) → result ≡ Err left → (b ≡ false) × (other ≡ left)
 add_err true result number other left answer err = absurd (cc)
 add_err false result number other left answer err = (refl, cc)

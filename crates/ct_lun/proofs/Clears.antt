@@ -1,8 +1,9 @@
 -- The waiting commands of cleared nexuses are cut, one after another.
-use Rattle.std.proofs.Common.{◌≡◌, ℕ, zero, suc, ◌+◌, ◌<◌, ◌≤◌, List, [], ◌∷◌, ◌++◌, Bool, true, false, not, Option, Some, None, length, map, drop, remove, if◌then◌else◌, refl, sym, ap, ◌∙◌, subst, arith, length-append}
+use Rattle.std.proofs.Common.{◌≡◌, ℕ, zero, suc, ◌+◌, ◌<◌, ◌≤◌, List, [], ◌∷◌, ◌++◌, Bool, true, false, not, Option, Some, None, length, map, take, drop, remove, if◌then◌else◌, refl, sym, ap, ◌∙◌, subst, arith, length-append}
 use Rattle.std.proofs.lemmas.Bool.{and_parts, false≢true}
 use Rattle.std.proofs.lemmas.List.{append-nil, drop_all}
 use Rattle.ct_word.specs.Nexuses.{no_nexuses, contains}
+use Rattle.ct_plan.specs.Plans.{puts_among}
 use Rattle.ct_book.specs.declared.event.Event.{Event}
 use Rattle.ct_book.specs.declared.event.Event.TheVariants as event
 use Rattle.ct_book.specs.declared.event.Why.TheVariants.{By}
@@ -23,7 +24,7 @@ use Rattle.ct_lun.specs.Calls.{Leaves, Wrote, Spends, Clears, told, medium_cuts}
 use Rattle.ct_lun.proofs.Does.{medium_cuts-append}
 use Rattle.ct_lun.proofs.Lists.{each_drop}
 use Rattle.ct_lun.proofs.Tasks.{waiting_stage}
-use Rattle.ct_lun.proofs.Keeps.{task_found, agrees_without}
+use Rattle.ct_lun.proofs.Keeps.{slot_agrees, task_found, agrees_without}
 use Rattle.ct_lun.proofs.Turns.{clearing_all_none}
 use Rattle.ct_lun.proofs.Effects.{wrote_then, left_state, stage_waits, after_told}
 use Rattle.ct_lun.proofs.Spent.{left_spends}
@@ -34,12 +35,12 @@ pub numbers_same : (works : List KeptWork) (slots : List Slot) → numbers_of (t
 numbers_same works [] = refl
 numbers_same works (x ∷ xs) = ap (λ (rest : List ℕ). x.no ∷ rest) (numbers_same works xs)
 
-numbers_from : (slots : List Slot) (at : ℕ) → at < length slots → map number_of (drop at slots) ≡ (slot_at slots at).no ∷ map number_of (drop (suc at) slots)
+pub numbers_from : (slots : List Slot) (at : ℕ) → at < length slots → map number_of (drop at slots) ≡ (slot_at slots at).no ∷ map number_of (drop (suc at) slots)
 numbers_from [] at within = absurd (omega (arith, within))
 numbers_from (x ∷ xs) zero within = refl
 numbers_from (x ∷ xs) (suc at) within = numbers_from xs at (omega (arith, within))
 
-drop_removed : (slots : List Slot) (at : ℕ) → drop at (remove slots at) ≡ drop (suc at) slots
+pub drop_removed : (slots : List Slot) (at : ℕ) → drop at (remove slots at) ≡ drop (suc at) slots
 drop_removed [] zero = refl
 drop_removed [] (suc at) = refl
 drop_removed (x ∷ xs) zero = refl
@@ -77,6 +78,16 @@ cleared_waits cleared works slot test =
     go : (begun : Bool) → not begun ≡ true → begun ≡ false
     go true e = absurd (false≢true e)
     go false e = refl
+
+-- it put no block
+pub cut_known : (d : Desk) (p p' : BookState) (at by : ℕ) (cleared : List Bool) (tells : Bool) → Agrees d p → at < length d.slots → is_cleared cleared (task_in p.works (slot_at d.slots at)) ≡ true → tells ≡ tells_aborts d.control
+    → p' ≡ with_event p (event.Cut (slot_at d.slots at).no (puts_among (take (slot_at d.slots at).task.done (slot_at d.slots at).task.plan.operations)) (By by) tells) → p' ≡ with_event p (cut_of d at by)
+cut_known d p p' at by cleared tells a h test same book =
+    let slot : Slot = slot_at d.slots at in
+    let none : slot.task.done ≡ 0 = ((slot_agrees d p at a h).waits (cleared_waits cleared p.works slot test)).none in
+    book
+    ∙ ap (λ (done : ℕ). with_event p (event.Cut slot.no (puts_among (take done slot.task.plan.operations)) (By by) tells)) none
+    ∙ ap (λ (t : Bool). with_event p (event.Cut slot.no 0 (By by) t)) same
 
 -- what the machine does with one command
 

@@ -13,4 +13,5 @@ pub mod Begins
 pub mod Steps
 pub mod Enters
 pub mod Arrivals
+pub mod Functions
 pub mod Opens

@@ -7,3 +7,4 @@ pub mod Calls
 pub mod Acts
 pub mod Overlaps
 pub mod Reached
+pub mod Functions

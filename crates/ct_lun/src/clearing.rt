@@ -1,11 +1,11 @@
 //! How the waiting commands are cut that another command clears (SPC-4, PREEMPT AND ABORT).
 
-ghost use Rattle.std.specs.Prelude.{◌≡◌, ◌<◌, ◌≤◌, length};
+ghost use Rattle.std.specs.Prelude.{◌≡◌, ◌<◌, ◌≤◌, length, take};
+ghost use Rattle.ct_plan.specs.Plans.{puts_among};
 ghost use Rattle.ct_book.specs.declared.event.Event.TheVariants as event;
 ghost use Rattle.ct_book.specs.declared.event.Why.TheVariants as why;
 ghost use Rattle.ct_book.specs.Journals.{with_event};
-ghost use Rattle.ct_book.specs.Kept.{IsCommandNo};
-ghost use Rattle.ct_exec.specs.Controls.{tells_aborts};
+ghost use Rattle.ct_book.specs.Kept.{IsCommandNo, IsWorkNo};
 ghost use Rattle.ct_machine.specs.Events.Ends.{is_cleared};
 ghost use Rattle.ct_machine.specs.Acts.Functions.{numbers_of};
 ghost use Rattle.ct_lun.specs.Desk.{Desk, slot_at};
@@ -30,7 +30,8 @@ impl<B: Backend> Lun<B> {
         let mut at = 0;
         while at < self.count() {
             if self.is_cleared(at, cleared, book) {
-                self.cut(at, by, book);
+                let told = self.tells_aborts();
+                self.cut(at, by, told, book);
             } else {
                 at += 1;
             }
@@ -47,21 +48,24 @@ impl<B: Backend> Lun<B> {
         !slot.begun && cleared.has(command(slot.no, book).nexus)
     }
 
-    // Cuts a command that did nothing yet by another one. Its initiator is told where TAS says so.
-    fn cut(&mut self, at: usize, by: CmdNo, book: &mut Book)
+    /// Cuts a command by another work, and writes whether its initiator is told.
+    pub(crate) fn cut(&mut self, at: usize, by: CmdNo, told: bool, book: &mut Book)
         requires within { at < length self.old.slots }
         requires agrees { Agrees self.old book.old }
-        requires reason { IsCommandNo book.old by }
+        requires reason { IsWorkNo book.old by }
         requires room { 0 < book.old.spare }
         ensures leaves { Leaves self.old self.new at }
-        ensures book { book.new ≡ with_event book.old (event.Cut (slot_at self.old.slots at).no 0 (why.By by) (tells_aborts self.old.control)) }
+        ensures book { book.new ≡ with_event book.old (event.Cut (slot_at self.old.slots at).no
+            (puts_among (take (slot_at self.old.slots at).task.done (slot_at self.old.slots at).task.plan.operations))
+            (why.By by) told) }
     {
-        let no = self.slot(at).no;
-        let told = self.control.tells_aborts();
+        let slot = self.slot(at);
+        let no = slot.no;
+        let puts = slot.task.plan.writes_done(slot.task.done);
         self.take_out(at);
         book.push(Event::Cut {
             no,
-            puts: 0,
+            puts,
             why: Why::By(by),
             told,
         });

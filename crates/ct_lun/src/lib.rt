@@ -9,6 +9,7 @@ mod mechanics;
 mod said;
 mod search;
 mod slot;
+mod task_management;
 mod unit;
 
 pub use said::{Entered, Stepped};

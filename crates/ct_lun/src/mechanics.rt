@@ -6,6 +6,7 @@ ghost use Rattle.ct_pool.specs.Leases.{IsLeaseOf};
 ghost use Rattle.ct_plan.specs.Tasks.{IsReady};
 ghost use Rattle.ct_matrix.specs.Queues.{command_of, placed, with_begun};
 ghost use Rattle.ct_book.specs.Kept.{IsCommandNo};
+ghost use Rattle.ct_exec.specs.Controls.{tells_aborts};
 ghost use Rattle.ct_exec.specs.Executions.{plan_in, need_in, refusal_of, refused_control};
 ghost use Rattle.ct_exec.specs.Refusals.{refused_reply};
 ghost use Rattle.ct_machine.specs.States.{held_by};
@@ -31,6 +32,13 @@ impl<B: Backend> Lun<B> {
         ensures { result.now ≡ slot_at self.now.slots at }
     {
         &self.slots.as_slice()[at]
+    }
+
+    /// Whether a command that another nexus aborts ends with TASK ABORTED.
+    pub(crate) fn tells_aborts(&self) -> bool
+        ensures { result ≡ tells_aborts self.now.control }
+    {
+        self.control.tells_aborts()
     }
 
     /// How many commands are in the task set.

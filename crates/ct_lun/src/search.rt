@@ -1,10 +1,13 @@
 //! Searches in a list of slots.
 
 ghost use Rattle.std.specs.Prelude.{◌≡◌};
+ghost use Rattle.std.specs.List.{list_any};
+ghost use Rattle.ct_tmf.specs.Reaches.{seeks};
 ghost use Rattle.ct_lun.specs.Desk.{place_of, waiting_from};
 ghost use Rattle.ct_lun.specs.Overlaps.{is_sent_by};
 
 use crate::slot::Slot;
+use ct_tmf::{Ask, seeks};
 use ct_word::{CmdNo, Nexus, Tag};
 
 /// Where the slot with a number stands, or the length.
@@ -38,4 +41,11 @@ pub(crate) fn overlaps(slots: &[Slot], nexus: Nexus, tag: Tag) -> bool
     slots
         .iter()
         .any(|slot| nexus.is_same(slot.nexus) && tag.0 == slot.tag.0)
+}
+
+/// A query is about one of them.
+pub(crate) fn seeks_any(slots: &[Slot], ask: &Ask) -> bool
+    ensures { result ≡ list_any (λ slot. seeks ask.now slot.nexus slot.tag) slots.now }
+{
+    slots.iter().any(|slot| seeks(ask, slot.nexus, slot.tag))
 }

@@ -12,7 +12,8 @@ use Rattle.ct_book.specs.declared.event.Event.TheVariants as event
 use Rattle.ct_book.specs.declared.event.Logged.{Logged}
 use Rattle.ct_book.specs.Journals.{KeptWork, numbered, works_in}
 use Rattle.ct_book.specs.Histories.{set_by, cut_by}
-use Rattle.ct_exec.specs.Controls.{Disk, opening_disk, closing_control}
+use Rattle.ct_exec.specs.Controls.{Disk, opening_disk}
+use Rattle.ct_exec.specs.Closing.{closing_control}
 use Rattle.ct_exec.specs.Executions.{execute, plan_in}
 use Rattle.ct_machine.specs.declared.act.Opening.{Opening}
 

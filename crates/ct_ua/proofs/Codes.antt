@@ -1,10 +1,9 @@
 -- Sets of codes, and the first of them.
-use Rattle.std.proofs.Common.{◌≡◌, ◌++◌, List, [], ◌∷◌, Bool, true, false, Option, None, Some, IfSome, IfNone, if◌then◌else◌, refl, sym, ap, ◌∙◌}
-use Rattle.std.specs.List.{list_any}
+use Rattle.std.proofs.Common.{◌≡◌, List, [], ◌∷◌, Bool, true, false, Option, None, Some, IfSome, IfNone, if◌then◌else◌, refl, sym, ap, ◌∙◌}
 use Rattle.ct_word.specs.declared.names.Code.{Code}
 use Rattle.ct_word.specs.declared.names.Code.TheVariants as code
 use Rattle.ct_ua.specs.declared.code_set.CodeSet.{CodeSet}
-use Rattle.ct_ua.specs.CodeSets.{has_code, put_code, with_code, without_code, no_codes, told_in_order, first_among, first_of, IsFirst}
+use Rattle.ct_ua.specs.CodeSets.{has_code, put_code, with_code, no_codes, told_in_order, first_among, first_of, IsFirst}
 
 -- what was put is there
 pub has-put : (set : CodeSet) (code : Code) (is_in : Bool) → has_code (put_code set code is_in) code ≡ is_in

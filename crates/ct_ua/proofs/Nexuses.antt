@@ -1,8 +1,9 @@
 -- What is taken of one nexus and raised for another.
-use Rattle.std.proofs.Common.{◌≡◌, ◌≢◌, ◌<◌, ℕ, zero, suc, List, [], ◌∷◌, length, map, slice_set, slice_index_or, Bool, true, false, Option, None, Some, refl, sym, ap, ◌∙◌, arith, get_or-set_other, get_or-set_same}
-use Rattle.std.proofs.lemmas.List.{set-get_or, set_comm, get_or-map, length-map, length-set}
+use Rattle.std.proofs.Common.{◌≡◌, ◌≢◌, ◌≤◌, ◌<◌, ◌+◌, ◌*◌, ◌⊎◌, inl, inr, replicate, nat_lt, ℕ, zero, suc, List, [], ◌∷◌, length, map, slice_set, slice_index_or, Bool, true, false, Option, None, Some, refl, sym, ap, ◌∙◌, arith, get_or-set_other, get_or-set_same}
+use Rattle.std.proofs.lemmas.List.{set-get_or, set_comm, set_past, get_or-map, length-map, length-set}
+use Rattle.std.proofs.lemmas.Bool.{cases_Bool, cases_eq}
 use Rattle.std.proofs.lemmas.Bool.Decides.{nat_tests}
-use Rattle.ct_word.specs.Nexuses.{IsNexus, place_of, is_same_nexus}
+use Rattle.ct_word.specs.Nexuses.{IsNexus, place_of, is_same_nexus, no_nexuses, contains, only_nexus}
 use Rattle.ct_word.specs.declared.names.Nexus.{Nexus}
 use Rattle.ct_word.specs.declared.names.Code.{Code}
 use Rattle.ct_ua.specs.declared.code_set.CodeSet.{CodeSet}
@@ -10,16 +11,21 @@ use Rattle.ct_ua.specs.CodeSets.{no_codes, has_code, with_code, without_code, fi
 use Rattle.ct_ua.specs.Attentions.{codes_of, with_codes, first_code, without_first, after_take, after_raise, after_raise_for_all, after_raise_for_others, after_raise_for, after_clear}
 use Rattle.ct_ua.proofs.Codes.{put-same, none_is, first_alone}
 
+-- where a nexus has its place
+below : (k : ℕ) → k < 16 → nat_lt k 16 ≡ true
+below k inside = grind (arith, nat_tests)
+
+place_is : (a : Nexus) → IsNexus a → place_of a ≡ a.port * 16 + a.init
+place_is a in_a = rw (below a.port in_a.port, below a.init in_a.init) refl
+
 -- different nexuses have different places
 pub places_differ : (a b : Nexus) → IsNexus a → IsNexus b → is_same_nexus a b ≡ false → place_of a ≢ place_of b
 places_differ a b in_a in_b differ same =
+    let places : a.port * 16 + a.init ≡ b.port * 16 + b.init = sym (place_is a in_a) ∙ same ∙ place_is b in_b in
     let port : a.port ≡ b.port = omega (arith, in_a.init, in_b.init) in
     let init : a.init ≡ b.init = omega (arith, in_a.init, in_b.init) in
     let equal : is_same_nexus a b ≡ true = rw (port, init) (grind (arith, nat_tests)) in
     cc
-
-pub within : (a : Nexus) → IsNexus a → place_of a < 256
-within a in_a = omega (arith, in_a.port, in_a.init)
 
 -- other codes for one nexus leave those of the others
 pub other_codes : (attentions : List CodeSet) (a b : Nexus) (codes : CodeSet) → place_of b ≢ place_of a → codes_of (with_codes attentions a codes) b ≡ codes_of attentions b
@@ -139,3 +145,58 @@ length-raise_for (codes ∷ attentions) (is_in ∷ set) code = ap suc (length-ra
 pub length-clear : (attentions : List CodeSet) (a : Nexus) → length (after_clear attentions a) ≡ length attentions
 unfolding after_clear
 length-clear attentions a = length-set _ _ _
+
+-- raising for a set leaves what the others have
+beside_at : (attentions : List CodeSet) (set : List Bool) (code : Code) (place : ℕ) → slice_index_or set place false ≡ false
+    → slice_index_or (after_raise_for attentions set code) place no_codes ≡ slice_index_or attentions place no_codes
+unfolding after_raise_for
+beside_at attentions [] code place beside = refl
+beside_at [] (told ∷ set) code place beside = refl
+beside_at (codes ∷ attentions) (true ∷ set) code zero beside = absurd (cc)
+beside_at (codes ∷ attentions) (false ∷ set) code zero beside = refl
+beside_at (codes ∷ attentions) (told ∷ set) code (suc place) beside = beside_at attentions set code place beside
+
+pub raised_beside : (attentions : List CodeSet) (set : List Bool) (a : Nexus) (code : Code) → contains set a ≡ false
+    → codes_of (after_raise_for attentions set code) a ≡ codes_of attentions a
+raised_beside attentions set a code beside = beside_at attentions set code (place_of a) beside
+
+pub first_beside : (attentions : List CodeSet) (set : List Bool) (a : Nexus) (code : Code) → contains set a ≡ false
+    → first_code (after_raise_for attentions set code) a ≡ first_code attentions a
+unfolding first_code
+first_beside attentions set a code beside = ap first_of (raised_beside attentions set a code beside)
+
+-- the set of one nexus has no other
+inside_of : (a : Nexus) → nat_lt (place_of a) 256 ≡ true → IsNexus a
+inside_of a inside = go (nat_lt a.port 16) (nat_lt a.init 16) refl refl
+  where
+    go : (p i : Bool) → nat_lt a.port 16 ≡ p → nat_lt a.init 16 ≡ i → IsNexus a
+    go true true port init = record { port = grind (arith, nat_tests); init = grind (arith, nat_tests) }
+    go true false port init = let outside : nat_lt (place_of a) 256 ≡ false = rw (port, init) refl in cc
+    go false i port init = let outside : nat_lt (place_of a) 256 ≡ false = rw port refl in cc
+
+none_at : (count place : ℕ) → slice_index_or (replicate count false) place false ≡ false
+none_at zero place = refl
+none_at (suc count) zero = refl
+none_at (suc count) (suc place) = none_at count place
+
+pub none_contained : (a : Nexus) → contains no_nexuses a ≡ false
+unfolding no_nexuses
+none_contained a = none_at 256 (place_of a)
+
+pub other_not_in : (a b : Nexus) → is_same_nexus a b ≡ false → contains (only_nexus a) b ≡ false
+unfolding no_nexuses
+other_not_in a b differ =
+    elim (cases_Bool (nat_lt (place_of a) 256)) [
+      | inl inside ↦ go inside (cases_eq (place_of b) (place_of a))
+      | inr outside ↦
+          ap (λ (set : List Bool). slice_index_or set (place_of b) false) (set_past (replicate 256 false) (place_of a) true (past outside))
+          ∙ none_at 256 (place_of b)
+    ]
+  where
+    past : nat_lt (place_of a) 256 ≡ false → length (replicate 256 false) ≤ place_of a
+    past outside = let no : 256 ≤ place_of a = grind (arith, nat_tests) in no
+
+    go : nat_lt (place_of a) 256 ≡ true → (place_of b ≡ place_of a) ⊎ (place_of b ≢ place_of a) → contains (only_nexus a) b ≡ false
+    go inside (inl same) =
+        absurd (places_differ a b (inside_of a inside) (inside_of b (ap (λ k. nat_lt k 256) same ∙ inside)) differ (sym same))
+    go inside (inr apart) = get_or-set_other (replicate 256 false) (place_of a) (place_of b) true false apart ∙ none_at 256 (place_of b)

@@ -1,5 +1,4 @@
 ghost use Rattle.std.specs.Prelude.{◌≡◌, length};
-ghost use Rattle.ct_word.specs.Nexuses.{place_of};
 ghost use Rattle.ct_ua.specs.Attentions.{no_attentions, power_on_attentions, codes_of, with_codes, first_code};
 ghost use Rattle.ct_ua.specs.Attentions.{after_take, after_raise, after_raise_for_all, after_raise_for_others};
 ghost use Rattle.ct_ua.specs.Attentions.{after_raise_for, after_clear};
@@ -125,7 +124,7 @@ impl Attentions {
     fn codes(&self, n: Nexus) -> CodeSet
         ensures { result ≡ codes_of self.now n }
     {
-        match self.sets.get(place_of(n)) {
+        match self.sets.get(n.place()) {
             Some(codes) => *codes,
             None => CodeSet::none(),
         }
@@ -134,15 +133,9 @@ impl Attentions {
     fn put(&mut self, n: Nexus, codes: CodeSet)
         ensures { self.new ≡ with_codes self.old n codes }
     {
-        let place = place_of(n);
+        let place = n.place();
         if place < self.sets.len() {
             self.sets[place] = codes;
         }
     }
-}
-
-fn place_of(n: Nexus) -> usize
-    ensures { result ≡ place_of n }
-{
-    usize::from(n.port) * 16 + usize::from(n.init)
 }

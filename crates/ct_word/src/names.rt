@@ -1,5 +1,5 @@
 ghost use Rattle.std.specs.Prelude.{◌≡◌};
-ghost use Rattle.ct_word.specs.Nexuses.{is_same_nexus};
+ghost use Rattle.ct_word.specs.Nexuses.{is_same_nexus, place_of};
 
 use std::alloc::{AllocError, AllocFailed};
 use std::marker::Model;
@@ -34,6 +34,17 @@ impl Nexus {
         ensures { result ≡ is_same_nexus self other }
     {
         self.port == other.port && self.init == other.init
+    }
+
+    /// Its place among the 256, from 0; 256 where a number isn't below 16.
+    pub fn place(self) -> usize
+        ensures { result ≡ place_of self }
+    {
+        if self.port < 16 && self.init < 16 {
+            usize::from(self.port) * 16 + usize::from(self.init)
+        } else {
+            256
+        }
     }
 }
 

@@ -1,5 +1,5 @@
-ghost use Rattle.std.specs.Prelude.{◌≡◌, ◌+◌, ◌*◌, slice_index_or, false};
-ghost use Rattle.ct_word.specs.Nexuses.{IsNexus, no_nexuses, place_of, contains, with_nexus};
+ghost use Rattle.std.specs.Prelude.{◌≡◌, slice_index_or, false};
+ghost use Rattle.ct_word.specs.Nexuses.{IsNexus, no_nexuses, contains, with_nexus, only_nexus};
 
 use crate::names::Nexus;
 use std::marker::Model;
@@ -31,11 +31,20 @@ impl NexusSet {
         }
     }
 
+    /// The set of one nexus; the empty set where it has no place among the 256.
+    pub fn of(n: Nexus) -> NexusSet
+        ensures { result ≡ only_nexus n }
+    {
+        let mut set = NexusSet::open();
+        set.add(n);
+        set
+    }
+
     pub fn has(&self, n: Nexus) -> bool
         requires { IsNexus n }
         ensures { result ≡ contains self.now n }
     {
-        self.flags[place_of(n)]
+        self.flags[n.place()]
     }
 
     /// Whether the nexus at a place is in the set. From place 256 on there is none.
@@ -52,15 +61,9 @@ impl NexusSet {
     pub fn add(&mut self, n: Nexus)
         ensures { self.new ≡ with_nexus self.old n }
     {
-        let place = place_of(n);
+        let place = n.place();
         if place < self.flags.len() {
             self.flags[place] = true;
         }
     }
-}
-
-fn place_of(n: Nexus) -> usize
-    ensures { result ≡ place_of n }
-{
-    usize::from(n.port) * 16 + usize::from(n.init)
 }

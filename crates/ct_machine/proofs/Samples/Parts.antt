@@ -24,7 +24,8 @@ use Rattle.ct_book.specs.declared.event.Event.{Event}
 use Rattle.ct_book.specs.declared.event.Logged.{Logged}
 use Rattle.ct_book.specs.Works.{profile_in}
 use Rattle.ct_book.specs.Journals.{KeptWork}
-use Rattle.ct_exec.specs.Controls.{is_unrestricted, has_descriptors, tells_aborts, closing_control}
+use Rattle.ct_exec.specs.Controls.{is_unrestricted, has_descriptors, tells_aborts}
+use Rattle.ct_exec.specs.Closing.{closing_control}
 use Rattle.ct_param.specs.ModeLists.{mode_list_of}
 use Rattle.ct_param.specs.UnmapLists.{unmap_list_of}
 use Rattle.ct_pages.specs.Selects.{selected_pages}

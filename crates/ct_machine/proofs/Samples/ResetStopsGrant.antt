@@ -1,5 +1,5 @@
 -- A reset stops a write that was granted to node B.
-use Rattle.std.proofs.Common.{◌≡◌, List, [], ◌∷◌, ◌++◌, take, false, refl}
+use Rattle.std.proofs.Common.{◌≡◌, List, [], ◌∷◌, ◌++◌, take, None, false, refl}
 use Rattle.ct_word.specs.declared.names.Ha.TheVariants as ha
 use Rattle.ct_word.specs.declared.names.Node.TheVariants.{A, B}
 use Rattle.ct_tmf.specs.declared.function.Function.TheVariants.{LunReset}
@@ -10,7 +10,7 @@ use Rattle.ct_book.specs.declared.event.Why.TheVariants.{By}
 use Rattle.ct_machine.specs.declared.act.Answer.TheVariants as answer
 use Rattle.ct_machine.specs.declared.act.Opening.{Opening}
 use Rattle.ct_machine.specs.Runs.{Move}
-use Rattle.ct_machine.proofs.Samples.Parts.{machine, unit_of, write, no_read, asks, step, deliver, next, answers_behind, shown, played, good, filled}
+use Rattle.ct_machine.proofs.Samples.Parts.{machine, unit_of, write, no_read, asks, step, deliver, next, answers_behind, shown, played, check, filled}
 
 abbrev unit : Opening
 unit = unit_of ha.Serialise 16
@@ -26,7 +26,7 @@ reset_stops_grant : shown unit reset_stops_grant_script 3 ≡ record {
       ∷ event.Deliver B kind.Grant 3 ∷ event.Moved 3 2 ∷ event.Came 4 A 15 ∷ event.Asked 4
       ∷ event.Deliver B kind.Stop 3 ∷ event.Cut 3 2 (By 4) false ∷ event.Deliver A kind.Stopped 3
       ∷ event.Closed 4 Complete ∷ event.Came 5 A 18 ∷ event.Enter 5 ∷ event.Ended 5 ∷ [];
-  replies = good [] ∷ [];
+  replies = check 6 0x29 0 None ∷ [];
   answers =
       answer.Sent 3 ∷ answer.Delivered kind.Ask 3 ∷ answer.Moved 3 ∷ answer.Delivered kind.Grant 3
       ∷ answer.Moved 3 ∷ answer.Open 4 ∷ answer.Delivered kind.Stop 3 ∷ answer.Delivered kind.Stopped 3

@@ -1,6 +1,6 @@
 -- Two functions await one command at node B. The one with the lower number comes from B, and is taken up second; both
 -- close in one act, the lower number first. Meanwhile nothing begins.
-use Rattle.std.proofs.Common.{◌≡◌, List, [], ◌∷◌, ◌++◌, false, refl}
+use Rattle.std.proofs.Common.{◌≡◌, List, [], ◌∷◌, ◌++◌, None, false, refl}
 use Rattle.ct_word.specs.declared.names.Ha.TheVariants as ha
 use Rattle.ct_word.specs.declared.names.Node.TheVariants.{A, B}
 use Rattle.ct_tmf.specs.declared.function.Function.TheVariants.{LunReset}
@@ -11,7 +11,7 @@ use Rattle.ct_book.specs.declared.event.Why.TheVariants.{By}
 use Rattle.ct_machine.specs.declared.act.Answer.TheVariants as answer
 use Rattle.ct_machine.specs.declared.act.Opening.{Opening}
 use Rattle.ct_machine.specs.Runs.{Move}
-use Rattle.ct_machine.proofs.Samples.Parts.{machine, unit_of, write, no_read, asks, step, deliver, next, shown, good, filled}
+use Rattle.ct_machine.proofs.Samples.Parts.{machine, unit_of, write, no_read, asks, step, deliver, next, shown, check, filled}
 
 abbrev unit : Opening
 unit = unit_of ha.Serialise 16
@@ -28,7 +28,7 @@ two_functions : shown unit two_functions_script 3 ≡ record {
       ∷ event.Deliver A kind.Function 4 ∷ event.Asked 4 ∷ event.Came 6 A 18 ∷ event.Enter 6
       ∷ event.Deliver B kind.Stop 3 ∷ event.Cut 3 2 (By 5) false ∷ event.Deliver A kind.Stopped 3
       ∷ event.Closed 4 Complete ∷ event.Closed 5 Complete ∷ event.Deliver B kind.Response 4 ∷ event.Ended 6 ∷ [];
-  replies = good [] ∷ [];
+  replies = check 6 0x29 0 None ∷ [];
   answers =
       answer.Sent 3 ∷ answer.Delivered kind.Ask 3 ∷ answer.Moved 3 ∷ answer.Delivered kind.Grant 3
       ∷ answer.Moved 3 ∷ answer.Sent 4 ∷ answer.Open 5 ∷ answer.Delivered kind.Function 4 ∷ answer.Queued 6

@@ -8,7 +8,8 @@ use Rattle.ct_book.specs.declared.work.Work.TheVariants as work
 use Rattle.ct_book.specs.declared.event.Kind2.TheVariants as kind
 use Rattle.ct_book.specs.Journals.{KeptWork}
 use Rattle.ct_book.specs.Histories.{set_of}
-use Rattle.ct_exec.specs.Controls.{tells_aborts, closing_control}
+use Rattle.ct_exec.specs.Controls.{tells_aborts}
+use Rattle.ct_exec.specs.Closing.{closing_control}
 use Rattle.ct_machine.specs.States.{Task, Open, Message, Arrival, State, function_of, is_here, is_remote}
 use Rattle.ct_machine.specs.Events.Sends.{stop, to_b, answered}
 

@@ -5,7 +5,7 @@ use Rattle.ct_machine.specs.Events.Ends.{is_cleared}
 use Rattle.ct_lun.specs.Desk.{Desk, slot_at}
 use Rattle.ct_lun.specs.States.{task_in}
 use Rattle.ct_lun.specs.Calls.{Clears}
-use Rattle.ct_lun.proofs.Clears.{numbers_same, cut_agrees, clears_cut, clears_pass, clears_end}
+use Rattle.ct_lun.proofs.Clears.{numbers_same, cut_known, cut_agrees, clears_cut, clears_pass, clears_end}
 use Rattle.ct_lun.proofs.unit.Lun.clear.Goals as goal
 
 pub loop-at-init : goal.loop-at-init
@@ -26,13 +26,14 @@ loop-at-preserved-then-is_cleared g c =
     let here : at < length d.slots = omega (arith, c.loop-at-test.true, c.count.ensures) in
     let due : is_cleared c.args.cleared.now (task_in p.works (slot_at d.slots at)) ≡ true = sym c.if-is_cleared.ensures in
     let room : 0 < p.spare = omega (arith, here, was.room) in
+    let book = cut_known d p c.cut.new.book at c.args.by c.args.cleared.now c.tells_aborts-told.result was.agrees.base here due c.tells_aborts-told.ensures c.cut.ensures.book in
     let fewer : length c.cut.new.self.slots + 1 ≡ length d.slots = rw c.cut.ensures.leaves.slots (omega (arith, length-remove d.slots at here, here)) in
     record {
-      agrees = cut_agrees d c.cut.new.self p c.cut.new.book at c.args.by c.args.cleared.now was.agrees here due room c.cut.ensures.leaves c.cut.ensures.book;
+      agrees = cut_agrees d c.cut.new.self p c.cut.new.book at c.args.by c.args.cleared.now was.agrees here due room c.cut.ensures.leaves book;
       reason = rw c.cut.ensures.book was.reason;
       within = omega (arith, here, fewer);
       room = rw c.cut.ensures.book (omega (arith, here, fewer, was.room));
-      leads = λ end last done. was.leads end last (clears_cut d c.cut.new.self end p c.cut.new.book last at c.args.by c.args.cleared.now was.agrees here due room c.cut.ensures.leaves c.cut.ensures.book done);
+      leads = λ end last done. was.leads end last (clears_cut d c.cut.new.self end p c.cut.new.book last at c.args.by c.args.cleared.now was.agrees here due room c.cut.ensures.leaves book done);
     }
 
 pub loop-at-preserved : goal.loop-at-preserved

@@ -1,4 +1,4 @@
-use Rattle.std.proofs.Common.{◌≡◌, ◌++◌, length, map, take, drop, sym, ◌≤◌, ◌<◌, arith, append-nil, refl}
+use Rattle.std.proofs.Common.{length, ◌≤◌, ◌<◌, arith, append-nil}
 use Rattle.std.proofs.lemmas.List.{take_all, drop_all}
 use Rattle.ct_ua.proofs.Raising.{raised_more}
 use Rattle.ct_ua.specs.Attentions.{after_raise_for_all}
