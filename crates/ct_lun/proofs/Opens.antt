@@ -55,3 +55,8 @@ step_spare d p enough some = omega (arith, enough, least_sum (length d.blocks) p
 pub arrive_spare : (d : Desk) (p : BookState) → room_of (state_of d p) ≤ p.spare → 0 < p.commands → 2 ≤ p.spare
 unfolding room_of
 arrive_spare d p enough some = omega (arith, enough, some)
+
+-- where a function can come there is room for its events, and for the cuts of all commands
+pub ask_spare : (d : Desk) (p : BookState) → room_of (state_of d p) ≤ p.spare → 0 < p.functions → length d.slots + 3 ≤ p.spare
+unfolding room_of
+ask_spare d p enough some = omega (arith, enough, least_sum (length d.blocks) p.works d.slots, some)

@@ -34,7 +34,7 @@ use Rattle.ct_lun.specs.Calls.{Does}
 use Rattle.ct_lun.specs.Calls.{medium_cuts}
 use Rattle.ct_plan.specs.Pieces.{faults_at}
 use Rattle.ct_pair.specs.Pairs.{IsPair, Acts}
-use Rattle.ct_pair.proofs.Events.{functions_stay, arrivals_stay}
+use Rattle.ct_pair.proofs.Events.{arrivals_stay}
 use Rattle.ct_lun.proofs.Does.{medium_cuts-append}
 use Rattle.ct_pair.proofs.Steps.{steps, steps_next}
 
@@ -165,33 +165,16 @@ pub acted_deliver : (o : Opening) (d : Desk) (p : BookState) (node : Node) → I
     → Acts (record { opening = o; desk = d; book = p }) (record { opening = o; desk = d; book = p }) (act.Deliver node) answer.Nothing
 acted_deliver o d p node h = acted_nothing o d p (act.Deliver node) answer.Nothing h (delivers_nothing d p node)
 
--- there is no room for a work
+-- a work comes
 
-refuses : (s : State) (node : Node) (w : KeptWork) → has_room_for w s ≡ false → act_of s (act.Arrive node w) None ≡ record { journal = []; answer = answer.NoRoom w }
-unfolding act_of
-refuses s node w e =
-    ap (λ (room : Bool). let done : Done = if room then arriving_at node w (next_number s) s else unchanged (answer.NoRoom w) s in record { journal = done.turn.journal; answer = done.answer }) e
+pub did_come : (o : Opening) (d d' : Desk) (p p' : BookState) (node : Node) (came : KeptWork) (said : Answer) → IsAtNode o node → IsPair o d p
+    → (x : Does d d' p p' (λ fault. arriving A came (state_of d p)) said) → Did o d d' p p' (act.Arrive node came) x.fault
+did_come o d d' p p' A came said at h x = did_by o d d' p p' (act.Arrive A came) said h x
+did_come o d d' p p' B came said at h x = absurd (at h.single)
 
-pub acted_refused : (o : Opening) (d : Desk) (p : BookState) (node : Node) (w : KeptWork) → IsPair o d p → has_room_for w (state_of d p) ≡ false
-    → Acts (record { opening = o; desk = d; book = p }) (record { opening = o; desk = d; book = p }) (act.Arrive node w) (answer.NoRoom w)
-acted_refused o d p node w h e = acted_nothing o d p (act.Arrive node w) (answer.NoRoom w) h (refuses (state_of d p) node w e)
-
-pub acted_ask : (o : Opening) (d : Desk) (p : BookState) (node : Node) (ask : Ask) → IsPair o d p
-    → Acts (record { opening = o; desk = d; book = p }) (record { opening = o; desk = d; book = p }) (act.Arrive node (work.Ask ask)) (answer.NoRoom (work.Ask ask))
-acted_ask o d p node ask h =
-    let none : p.functions ≡ 0 = ap (λ (s : State). s.room.functions) h.state ∙ functions_stay o p.journal h.single.functions in
-    acted_refused o d p node (work.Ask ask) h (ap (nat_lt 0) none)
-
--- a command comes
-
-pub did_come : (o : Opening) (d d' : Desk) (p p' : BookState) (node : Node) (c : Command) (said : Answer) → IsAtNode o node → IsPair o d p
-    → (x : Does d d' p p' (λ fault. arriving A (work.Cmd c) (state_of d p)) said) → Did o d d' p p' (act.Arrive node (work.Cmd c)) x.fault
-did_come o d d' p p' A c said at h x = did_by o d d' p p' (act.Arrive A (work.Cmd c)) said h x
-did_come o d d' p p' B c said at h x = absurd (at h.single.ha)
-
-pub acted_come : (o : Opening) (d d' : Desk) (p p' : BookState) (node : Node) (c : Command) (said : Answer) → IsAtNode o node → IsPair o d p
-    → Does d d' p p' (λ fault. arriving A (work.Cmd c) (state_of d p)) said
-    → Acts (record { opening = o; desk = d; book = p }) (record { opening = o; desk = d'; book = p' }) (act.Arrive node (work.Cmd c)) said
-acted_come o d d' p p' A c said at h x =
-    acted o d d' p p' (act.Arrive A (work.Cmd c)) x.fault said h (did_come o d d' p p' A c said at h x) (answered_by d d' p p' (act.Arrive A (work.Cmd c)) said x)
-acted_come o d d' p p' B c said at h x = absurd (at h.single.ha)
+pub acted_come : (o : Opening) (d d' : Desk) (p p' : BookState) (node : Node) (came : KeptWork) (said : Answer) → IsAtNode o node → IsPair o d p
+    → Does d d' p p' (λ fault. arriving A came (state_of d p)) said
+    → Acts (record { opening = o; desk = d; book = p }) (record { opening = o; desk = d'; book = p' }) (act.Arrive node came) said
+acted_come o d d' p p' A came said at h x =
+    acted o d d' p p' (act.Arrive A came) x.fault said h (did_come o d d' p p' A came said at h x) (answered_by d d' p p' (act.Arrive A came) said x)
+acted_come o d d' p p' B came said at h x = absurd (at h.single)

@@ -1,5 +1,4 @@
--- What events do to the works that came and to the room for more: all but arrivals leave both, and no event gives room
--- for task management functions.
+-- What events do to the works that came: all but arrivals leave them.
 use Rattle.std.proofs.Common.{◌≡◌, ℕ, ◌≤◌, List, [], ◌∷◌, ◌++◌, Bool, true, false, Option, Some, None, refl, ◌∙◌, arith}
 use Rattle.std.specs.List.{cons_option}
 use Rattle.ct_word.specs.declared.names.Node.{Node}
@@ -25,135 +24,116 @@ use Rattle.ct_machine.specs.Events.Deliveries.{came_to_a, begun_at_b, after_gran
 use Rattle.ct_machine.specs.Events.{after_event, after, after_events}
 use Rattle.ct_machine.specs.Runs.{replay}
 
--- the room for functions of the second state is not above that of the first
-abbrev Falls : State → State → Type 0
-Falls s t = t.room.functions ≤ s.room.functions
-
--- the works that came, and the room for more, stay
+-- the works that came stay
 abbrev Stays : State → State → Type 0
-Stays s t = (t.arrivals ≡ s.arrivals) × (t.room ≡ s.room)
+Stays s t = t.arrivals ≡ s.arrivals
 
 told : (at_b : Bool) (m : Message) (s : State) → Stays s (to_b_if at_b m s)
-told true m s = (refl, refl)
-told false m s = (refl, refl)
+told true m s = refl
+told false m s = refl
 
 answers : (k : Kind2) (number : ℕ) (s : State) → Stays s (answered k number s)
 answers k number s = told (came_at_b (arrival_of number s)) (message k number) s
 
-sent : (node : Node) (number : ℕ) (w : KeptWork) (s : State) → (sent_from node number w s).room ≡ s.room
-sent A number w s = refl
-sent B number w s = refl
-
-takes_room : (pieces : ℕ) (w : KeptWork) (s : State) → Falls s (with_room pieces w s)
-takes_room pieces (work.Cmd command) s = omega arith
-takes_room pieces (work.Ask ask) s = omega arith
-
-comes : (number : ℕ) (node : Node) (came : Option KeptWork) (s : State) → Falls s (after_came number node came s)
-comes number node None s = omega arith
-comes number node (Some w) s =
-    let arrived : State = record s { arrivals = s.arrivals ++ record { node = node; work = w } ∷ [] } in
-    let falls = takes_room (pieces_of w s) w arrived in
-    rw (sent node number w (with_room (pieces_of w s) w arrived)) falls
-
 enters : (number : ℕ) (found : Option Arrival) (s : State) → Stays s (after_enter number found s)
-enters number None s = (refl, refl)
+enters number None s = refl
 enters number (Some arrival) s = go arrival.work
   where
     go : (w : KeptWork) → Stays s (entered number arrival.node w s)
-    go (work.Cmd command) = (refl, refl)
-    go (work.Ask ask) = (refl, refl)
+    go (work.Cmd command) = refl
+    go (work.Ask ask) = refl
 
 stages : (stage : Stage) (found : Option Task) (s : State) → Stays s (staged stage found s)
-stages stage None s = (refl, refl)
-stages stage (Some task) s = (refl, refl)
+stages stage None s = refl
+stages stage (Some task) s = refl
 
 moves : (found : Option Task) (count : ℕ) (s : State) → Stays s (after_moved found count s)
-moves None count s = (refl, refl)
+moves None count s = refl
 moves (Some task) count s = go task.stage
   where
     go : (stage : Stage) → Stays s (moved_at stage task count s)
-    go (Here done got) = (refl, refl)
-    go (There done got) = (refl, refl)
-    go Waiting = (refl, refl)
-    go Granted = (refl, refl)
-    go Over = (refl, refl)
+    go (Here done got) = refl
+    go (There done got) = refl
+    go Waiting = refl
+    go Granted = refl
+    go Over = refl
 
 ends : (found : Option Task) (s : State) → Stays s (after_ended found s)
-ends None s = (refl, refl)
+ends None s = refl
 ends (Some task) s = go task.stage
   where
     go : (stage : Stage) → Stays s (ended_at stage task s)
     go Waiting = answers kind.Reply task.no _
     go (Here done got) = answers kind.Reply task.no (leaves task.no s)
-    go (There done got) = (refl, refl)
+    go (There done got) = refl
     go Granted = answers kind.Reply task.no (leaves task.no s)
     go Over = answers kind.Reply task.no (leaves task.no s)
 
 cuts : (why : Why) (found : Option Task) (s : State) → Stays s (after_cut why found s)
-cuts why None s = (refl, refl)
+cuts why None s = refl
 cuts why (Some task) s = go why task.stage
   where
     go : (why : Why) (stage : Stage) → Stays s (cut_at why stage task s)
-    go (By by) Waiting = (refl, refl)
-    go (By by) (Here done got) = (refl, refl)
-    go (By by) (There done got) = (refl, refl)
-    go (By by) Granted = (refl, refl)
-    go (By by) Over = (refl, refl)
+    go (By by) Waiting = refl
+    go (By by) (Here done got) = refl
+    go (By by) (There done got) = refl
+    go (By by) Granted = refl
+    go (By by) Over = refl
     go Medium Waiting = answers kind.Reply task.no (leaves task.no s)
     go Medium (Here done got) = answers kind.Reply task.no (leaves task.no s)
-    go Medium (There done got) = (refl, refl)
+    go Medium (There done got) = refl
     go Medium Granted = answers kind.Reply task.no (leaves task.no s)
     go Medium Over = answers kind.Reply task.no (leaves task.no s)
 
 asks : (number : ℕ) (found : Option Arrival) (s : State) → Stays s (after_asked number found s)
-asks number None s = (refl, refl)
+asks number None s = refl
 asks number (Some arrival) s = go arrival.work
   where
     go : (w : KeptWork) → Stays s (asked_for number w s)
-    go (work.Cmd command) = (refl, refl)
-    go (work.Ask ask) = (refl, refl)
+    go (work.Cmd command) = refl
+    go (work.Ask ask) = refl
 
 closes : (found : Option Open) (s : State) → Stays s (closed found s)
-closes None s = (refl, refl)
-closes (Some function) s = (refl, refl)
+closes None s = refl
+closes (Some function) s = refl
 
 to_a : (k : Kind2) (number : ℕ) (s : State) → Stays s (came_to_a k number s)
-to_a kind.Ask number s = (refl, refl)
-to_a kind.Function number s = (refl, refl)
-to_a kind.Finish number s = (refl, refl)
-to_a kind.Stopped number s = (refl, refl)
-to_a kind.Grant number s = (refl, refl)
-to_a kind.Stop number s = (refl, refl)
-to_a kind.Reply number s = (refl, refl)
-to_a kind.Response number s = (refl, refl)
+to_a kind.Ask number s = refl
+to_a kind.Function number s = refl
+to_a kind.Finish number s = refl
+to_a kind.Stopped number s = refl
+to_a kind.Grant number s = refl
+to_a kind.Stop number s = refl
+to_a kind.Reply number s = refl
+to_a kind.Response number s = refl
 
 grants : (found : Option Task) (s : State) → Stays s (after_grant found s)
-grants None s = (refl, refl)
+grants None s = refl
 grants (Some task) s = go task.stage
   where
     go : (stage : Stage) → Stays s (begun_at_b stage task s)
-    go Granted = (refl, refl)
-    go Waiting = (refl, refl)
-    go (Here done got) = (refl, refl)
-    go (There done got) = (refl, refl)
-    go Over = (refl, refl)
+    go Granted = refl
+    go Waiting = refl
+    go (Here done got) = refl
+    go (There done got) = refl
+    go Over = refl
 
 to_b : (k : Kind2) (number : ℕ) (s : State) → Stays s (came_to_b k number s)
 to_b kind.Grant number s = grants (task_of number s.tasks) s
-to_b kind.Ask number s = (refl, refl)
-to_b kind.Function number s = (refl, refl)
-to_b kind.Finish number s = (refl, refl)
-to_b kind.Stopped number s = (refl, refl)
-to_b kind.Stop number s = (refl, refl)
-to_b kind.Reply number s = (refl, refl)
-to_b kind.Response number s = (refl, refl)
+to_b kind.Ask number s = refl
+to_b kind.Function number s = refl
+to_b kind.Finish number s = refl
+to_b kind.Stopped number s = refl
+to_b kind.Stop number s = refl
+to_b kind.Reply number s = refl
+to_b kind.Response number s = refl
 
 delivers : (node : Node) (k : Kind2) (number : ℕ) (s : State) → Stays s (after_deliver node k number s)
 delivers A k number s = to_a k number _
 delivers B k number s = to_b k number _
 
 stays : (e : Event) (s : State) → Stays s (after_event e None s)
-stays (event.Came number node line) s = (refl, refl)
+stays (event.Came number node line) s = refl
 stays (event.Enter number) s = enters number (arrival_of number s) s
 stays (event.Turned number) s = answers kind.Reply number s
 stays (event.Begun number) s = stages (Here 0 []) (task_of number s.tasks) s
@@ -165,45 +145,13 @@ stays (event.Asked number) s = asks number (arrival_of number s) s
 stays (event.Closed number outcome) s =
     let first = answers kind.Response number (closed (function_of number s.functions) s) in
     let second = closes (function_of number s.functions) s in
-    (first.0 ∙ second.0, first.1 ∙ second.1)
+    first ∙ second
 stays (event.Deliver node k number) s = delivers node k number s
-
-same_falls : (a b : Room) → b ≡ a → b.functions ≤ a.functions
-same_falls a b same = rw same (omega arith)
-
-happens : (e : Event) (came : Option KeptWork) (s : State) → Falls s (after_event e came s)
-happens (event.Came number node line) came s = comes number node came s
-happens (event.Enter number) came s = same_falls s.room _ (stays (event.Enter number) s).1
-happens (event.Turned number) came s = same_falls s.room _ (stays (event.Turned number) s).1
-happens (event.Begun number) came s = same_falls s.room _ (stays (event.Begun number) s).1
-happens (event.Granted number) came s = same_falls s.room _ (stays (event.Granted number) s).1
-happens (event.Moved number count) came s = same_falls s.room _ (stays (event.Moved number count) s).1
-happens (event.Ended number) came s = same_falls s.room _ (stays (event.Ended number) s).1
-happens (event.Cut number puts why told) came s = same_falls s.room _ (stays (event.Cut number puts why told) s).1
-happens (event.Asked number) came s = same_falls s.room _ (stays (event.Asked number) s).1
-happens (event.Closed number outcome) came s = same_falls s.room _ (stays (event.Closed number outcome) s).1
-happens (event.Deliver node k number) came s = same_falls s.room _ (stays (event.Deliver node k number) s).1
-
-falls_once : (s : State) (l : Logged) → Falls s (after s l)
-unfolding after
-falls_once s l = happens l.event l.work s
-
-falls : (s : State) (journal : List Logged) → Falls s (after_events s journal)
-falls s [] = omega arith
-falls s (l ∷ journal) =
-    let first = falls_once s l in
-    let rest = falls (after s l) journal in
-    omega (arith, first, rest)
-
--- where no function could come at the opening, none can
-pub functions_stay : (o : Opening) (journal : List Logged) → o.room.functions ≡ 0 → (replay o journal).room.functions ≡ 0
-unfolding replay
-functions_stay o journal none = let fell = falls (opened o) journal in omega (arith, fell, none)
 
 -- events without works leave the works that came
 stays_once : (s : State) (l : Logged) → l.work ≡ None → (after s l).arrivals ≡ s.arrivals
 unfolding after
-stays_once s l none = rw none (stays l.event s).0
+stays_once s l none = rw none (stays l.event s)
 
 pub arrivals_stay : (s : State) (journal : List Logged) → works_in journal ≡ [] → (after_events s journal).arrivals ≡ s.arrivals
 arrivals_stay s [] none = refl

@@ -21,15 +21,10 @@ pub record PairState : Type 0 where
   pub desk : Desk
   pub book : BookState
 
--- there is one node, and no task management function can come
-pub record IsSingle (opening : Opening) : Type 0 where
-  pub ha : opening.ha ≡ ha.None
-  pub functions : opening.room.functions ≡ 0
-
--- the unit and its book are what the journal leads to, the journal is a run, and its medium cuts are as many as the faults
+-- there is one node; the unit and its book are what the journal leads to, the journal is a run, and its medium cuts are as many as the faults
 -- of the medium; there is room for all events that can still come
 pub record IsPair (opening : Opening) (desk : Desk) (book : BookState) : Type 0 where
-  pub single : IsSingle opening
+  pub single : opening.ha ≡ ha.None
   pub state : state_of desk book ≡ replay opening book.journal
   pub run : IsRun opening book.journal
   pub agrees : AgreesWith desk book

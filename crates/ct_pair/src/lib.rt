@@ -1,5 +1,5 @@
 //! One logical unit with its two nodes and its journal: each act does what the written machine does. At this stage
-//! there is one node, and no task management function.
+//! there is one node.
 #![tactic(auto)]
 
 mod pair;

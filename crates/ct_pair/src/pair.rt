@@ -47,8 +47,7 @@ pub struct End<B: Backend> {
 
 impl<B: Backend> Pair<B> {
     /// A unit of one node with an empty task set for `depth` commands, 1 to 256, a pool of so many blocks for what its
-    /// commands need meanwhile, and room for so many commands and block operations; no task management function can
-    /// come. The medium has 1 to 65,536 blocks, all zeros, and has not failed. The error is that memory ran out.
+    /// commands need meanwhile, and room for so many commands, task management functions and block operations. The medium has 1 to 65,536 blocks, all zeros, and has not failed. The error is that memory ran out.
     pub fn open(
         alloc: Global,
         ha: Ha,
@@ -59,7 +58,6 @@ impl<B: Backend> Pair<B> {
         medium: B,
     ) -> Result<Pair<B>, NoMemory>
         requires single { ha ≡ mode.None }
-        requires commands_alone { room.functions ≡ 0 }
         requires low { 1 ≤ depth }
         requires high { depth ≤ 256 }
         requires events { events_for room < 2 ^ 32 }
@@ -109,18 +107,15 @@ impl<B: Backend> Pair<B> {
         }
     }
 
-    // A work comes. It is handed back where there is no room for it; else the command enters, or is refused.
+    // A work comes. It is handed back where there is no room for it; else a command enters or is refused, and a function is
+    // answered.
     fn arrive(&mut self, node: Node, work: Work<Cmd>) -> Answer
         requires { IsAllowed self.old.opening (act.Arrive node work) }
         ensures { Acts self.old self.new (act.Arrive node work) result }
     {
         match work {
             Work::Cmd(cmd) => self.lun.arrive(cmd, &mut self.book),
-            Work::Ask(ask) => {
-                // no function can come, as holds of every pair
-                let _ = &self.opening;
-                Answer::NoRoom(Work::Ask(ask))
-            }
+            Work::Ask(ask) => self.lun.ask(ask, &mut self.book),
         }
     }
 
@@ -150,7 +145,7 @@ impl<B: Backend> Pair<B> {
     }
 
     /// The journal is a run of the machine at any time, with a cut for each fault of the medium, and no task management
-    /// function is open.
+    /// function is open between two acts.
     pub fn journal_is_a_run(&self)
         ensures run { IsRun self.now.opening self.now.book.journal }
         ensures closed { (replay self.now.opening self.now.book.journal).functions ≡ [] }
