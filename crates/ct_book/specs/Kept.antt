@@ -7,8 +7,6 @@ use Rattle.ct_sense.specs.declared.reply.Reply.{Reply}
 use Rattle.ct_book.specs.declared.work.Work.TheVariants as work
 use Rattle.ct_book.specs.declared.event.Event.{Event}
 use Rattle.ct_book.specs.declared.event.Event.TheVariants.{Came, Enter, Turned, Begun, Granted, Moved, Ended, Cut, Asked, Closed, Deliver}
-use Rattle.ct_book.specs.declared.event.Why.{Why}
-use Rattle.ct_book.specs.declared.event.Why.TheVariants.{By, Medium}
 use Rattle.ct_book.specs.declared.event.Logged.{Logged}
 use Rattle.ct_book.specs.Works.{IsReady}
 use Rattle.ct_book.specs.Facts.{About, NewWork, AnyWork, ACommand, AFunction, facts_of}
