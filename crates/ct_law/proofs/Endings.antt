@@ -5,7 +5,7 @@ use Rattle.std.specs.List.{list_any}
 use Rattle.std.proofs.lemmas.Bool.{or_left, or_right}
 use Rattle.std.proofs.lemmas.List.{length-replicate}
 use Rattle.std.proofs.lemmas.List.Folds.{list_any-append}
-use Rattle.std.specs.Prelude.{replicate}
+use Rattle.std.specs.Prelude.{replicate, IfSome}
 use Rattle.ct_sense.specs.declared.reply.Reply.{Reply}
 use Rattle.ct_plan.specs.declared.operation.BlockOp.{BlockOp}
 use Rattle.ct_plan.specs.declared.operation.BlockOp.TheVariants as operations
@@ -19,7 +19,7 @@ use Rattle.ct_book.specs.Journals.{KeptWork, numbered, works_in}
 use Rattle.ct_exec.specs.Executions.{plan_in, reply_moved}
 use Rattle.ct_machine.specs.declared.act.Opening.{Opening}
 use Rattle.ct_machine.specs.Serial.{serial_disk}
-use Rattle.ct_machine.specs.Laws.Journals.{has, is_begin, made_by, work_in, IsCommandOf}
+use Rattle.ct_machine.specs.Laws.Journals.{made_by, work_in, IsCommandOf, ended_by, AtEnd}
 use Rattle.ct_machine.specs.Laws.Cells.{Beside, progress_made, kept_if, moved_beside, beside_after, beside_behind}
 use Rattle.ct_machine.specs.Laws.Cells.{beside, RepliesByCells}
 use Rattle.ct_machine.specs.Laws.Endings.{is_compare, IsGoodOrDiffers, EndsGoodOrDiffersAt}
@@ -139,18 +139,18 @@ found_in o n journal =
     found_behind o n [] journal _ (record { size = length-replicate o.blocks (replicate 512 0); compares = λ offset e. absurd (cc) })
 
 pub ends_good : (o : Opening) (before : List Logged) (happened : Event) (replied : Option Reply) →
-    RepliesByCells o before happened replied → EndsGoodOrDiffersAt o before happened replied
-ends_good o before (event.Ended n) replied h = λ c known began. go c known (beside o n before).difference refl (h began)
+    AtEnd (RepliesByCells o before replied) happened → AtEnd (EndsGoodOrDiffersAt o before replied) happened
+ends_good o before happened replied h = at (ended_by happened) h
   where
-    go : (c : Command) → IsCommandOf before n c → (found : Option ℕ) → (beside o n before).difference ≡ found →
+    go : (n : ℕ) (c : Command) → IsCommandOf before n c → (found : Option ℕ) → (beside o n before).difference ≡ found →
         replied ≡ Some (reply_moved (serial_disk o before).control (beside o n before).difference (beside o n before).got) →
         IsGoodOrDiffers (serial_disk o before).control (plan_in o.blocks c) replied
-    go c known None is e =
+    go n c known None is e =
         inl (
           (beside o n before).got,
           e ∙ ap (λ f. Some (reply_moved (serial_disk o before).control f (beside o n before).got)) is,
         )
-    go c known (Some offset) is e =
+    go n c known (Some offset) is e =
         let found = (found_in o n before).compares offset is in
         let same : found.0 ≡ c = let k : Some (work.Cmd found.0) ≡ Some (work.Cmd c) = sym found.1 ∙ known in cc in
         inr (
@@ -158,13 +158,8 @@ ends_good o before (event.Ended n) replied h = λ c known began. go c known (bes
           ap (λ z. list_any is_compare (plan_in o.blocks z)) (sym same) ∙ found.2,
           e ∙ ap (λ f. Some (reply_moved (serial_disk o before).control f (beside o n before).got)) is,
         )
-ends_good o before (event.Came number node line) replied h = tt
-ends_good o before (event.Enter number) replied h = tt
-ends_good o before (event.Turned number) replied h = tt
-ends_good o before (event.Begun number) replied h = tt
-ends_good o before (event.Granted number) replied h = tt
-ends_good o before (event.Moved number count) replied h = tt
-ends_good o before (event.Cut number puts why told) replied h = tt
-ends_good o before (event.Asked number) replied h = tt
-ends_good o before (event.Closed number outcome) replied h = tt
-ends_good o before (event.Deliver node kind number) replied h = tt
+
+    at : (ended : Option ℕ) → IfSome ended (RepliesByCells o before replied) →
+        IfSome ended (EndsGoodOrDiffersAt o before replied)
+    at None h = tt
+    at (Some n) h = λ c known began. go n c known (beside o n before).difference refl (h began)

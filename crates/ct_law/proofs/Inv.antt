@@ -13,10 +13,10 @@ use Rattle.ct_machine.specs.declared.act.Opening.{Opening}
 use Rattle.ct_machine.specs.States.{Task, Stage, Waiting, Here, There, Arrival, State, is_waiting, has_begun}
 use Rattle.ct_machine.specs.Events.Functions.{works_of}
 use Rattle.ct_machine.specs.Serial.{disk_after, serial_disk}
-use Rattle.ct_machine.specs.Laws.Journals.{Each, has, is_entry, is_begin, is_enter, comes_first, IsCommandOf}
+use Rattle.ct_machine.specs.Laws.Journals.{Each, has, is_entry, is_begin, is_enter, comes_first, IsCommandOf, AtEnd}
 use Rattle.ct_machine.specs.Laws.Once.{IsFirstEntry}
 use Rattle.ct_machine.specs.Laws.Orderly.{goes_first, IsBehindAll, BeginsOrderly}
-use Rattle.ct_machine.specs.Laws.Reorders.{ReordersAtRestAt}
+use Rattle.ct_machine.specs.Laws.Reorders.{KeepsOrder}
 use Rattle.ct_machine.specs.Laws.Prefix.{RecordsPrefixAt}
 use Rattle.ct_machine.specs.Laws.Cells.{RepliesByCells, MakesPlanAt, Beside, beside, beside_after}
 use Rattle.ct_machine.specs.Laws.Kinds.{IsOfItsKind}
@@ -38,10 +38,10 @@ pub record LawfulAt (o : Opening) (before : List Logged) (l : Logged) : Type 0 w
   pub once : IsFirstEntry before l
   pub typed : IsOfItsKind before l.event
   pub orderly : BeginsOrderly o before l.event
-  pub reorders : ReordersAtRestAt o before l.event
+  pub reorders : AtEnd (KeepsOrder o before) l.event
   pub plan : MakesPlanAt o before l.event
   pub prefix : RecordsPrefixAt o before l.event
-  pub cells : RepliesByCells o before l.event l.reply
+  pub cells : AtEnd (RepliesByCells o before l.reply) l.event
   pub sound : IsSoundAt (standings_of o) o before l.event l.reply
   pub legal : IsRestricted o before → IsLegalAt (standings_of o) o before l.event l.reply
 

@@ -1,5 +1,5 @@
 -- The blocks and data beside the journal: each `moved` makes its operations, in order.
-use Rattle.std.specs.Prelude.{◌≡◌, ℕ, ◌+◌, ◌-◌, List, [], ◌∷◌, ◌++◌, length, take, drop, Bool, true, false, ◌==◌, if◌then◌else◌, Option, None, Some}
+use Rattle.std.specs.Prelude.{◌≡◌, ℕ, List, [], ◌∷◌, ◌++◌, length, take, drop, Bool, true, false, ◌==◌, Option, None, Some}
 use Rattle.ct_sense.specs.declared.reply.Reply.{Reply}
 use Rattle.ct_plan.specs.Cells.{Cells, Progress, performed}
 use Rattle.ct_book.specs.declared.work.Command.{Command}
@@ -13,7 +13,7 @@ use Rattle.ct_exec.specs.Executions.{plan_in, reply_moved}
 use Rattle.ct_machine.specs.declared.act.Opening.{Opening}
 use Rattle.ct_machine.specs.Runs.{replay}
 use Rattle.ct_machine.specs.Serial.{serial_disk}
-use Rattle.ct_machine.specs.Laws.Journals.{Each, has, is_begin, made_by, work_in, IsCommandOf}
+use Rattle.ct_machine.specs.Laws.Journals.{Each, has, is_begin, made_by, work_in, IsCommandOf, AtEnd}
 
 -- the blocks, and of one command the data so far and the difference that it found
 abbrev pub progress_made : Command → ℕ → ℕ → Cells → ℕ → Progress
@@ -58,21 +58,11 @@ beside o wanted journal =
     beside_behind wanted [] (record { blocks = (opening_disk o.lun o.blocks).blocks; got = []; difference = None }) journal
 
 -- the reply of a command that moved has the data that it got from the cells, or the first difference that it found
-abbrev pub RepliesByCells : Opening → List Logged → Event → Option Reply → Type 0
-RepliesByCells o before (event.Ended number) replied =
+abbrev pub RepliesByCells : Opening → List Logged → Option Reply → ℕ → Type 0
+RepliesByCells o before replied number =
     has (is_begin number) before ≡ true →
     let found = beside o number before in
     replied ≡ Some (reply_moved (serial_disk o before).control found.difference found.got)
-RepliesByCells o before (event.Came number node line) replied = Unit {0}
-RepliesByCells o before (event.Enter number) replied = Unit {0}
-RepliesByCells o before (event.Turned number) replied = Unit {0}
-RepliesByCells o before (event.Begun number) replied = Unit {0}
-RepliesByCells o before (event.Granted number) replied = Unit {0}
-RepliesByCells o before (event.Moved number count) replied = Unit {0}
-RepliesByCells o before (event.Cut number puts why told) replied = Unit {0}
-RepliesByCells o before (event.Asked number) replied = Unit {0}
-RepliesByCells o before (event.Closed number outcome) replied = Unit {0}
-RepliesByCells o before (event.Deliver node kind number) replied = Unit {0}
 
 -- a command that found a difference isn't moved on, nor cut; one that ends behind its begin without a difference made its
 -- whole plan
@@ -96,5 +86,5 @@ MakesPlans o journal = Each (λ before logged. MakesPlanAt o before logged.event
 
 -- replies and blocks are those of the cells
 pub record IsByCells (o : Opening) (journal : List Logged) : Type 0 where
-  pub replies : Each (λ before logged. RepliesByCells o before logged.event logged.reply) journal
+  pub replies : Each (λ before logged. AtEnd (RepliesByCells o before logged.reply) logged.event) journal
   pub blocks : (replay o journal).blocks ≡ (beside o 0 journal).blocks
