@@ -20,8 +20,9 @@ use Rattle.ct_machine.specs.declared.act.Act.TheVariants as act
 use Rattle.ct_machine.specs.declared.act.Answer.TheVariants as answer
 use Rattle.ct_machine.specs.declared.act.Opening.{Opening}
 use Rattle.ct_machine.specs.States.{Stage, Waiting, Here, Granted, There, Over, Task, Open, Message, Arrival, State, disk_of, arrival_of, task_of, function_of}
-use Rattle.ct_machine.specs.Events.Sends.{message, to_b_if, came_at_b, answered}
-use Rattle.ct_machine.specs.Events.Arrivals.{entered, after_enter}
+use Rattle.ct_machine.specs.States.{is_remote}
+use Rattle.ct_machine.specs.Events.Sends.{message, to_b_if, came_remote, answered, to_a}
+use Rattle.ct_machine.specs.Events.Arrivals.{entered, after_enter, kind_of}
 use Rattle.ct_machine.specs.Events.Moves.{staged, moved_from, moved_at, after_moved}
 use Rattle.ct_machine.specs.Events.Ends.{leaves, executed_at_once, ended_at, after_ended, cut_at, after_cut}
 use Rattle.ct_machine.specs.Events.Functions.{asked_for, after_asked, works_of, closed}
@@ -31,13 +32,14 @@ use Rattle.ct_machine.specs.Acts.Turns.{Turn, nothing, writes, says}
 use Rattle.ct_machine.specs.Acts.Entries.{turned_cause, entering_with, entering}
 use Rattle.ct_machine.specs.Acts.Functions.{asking, open_numbers}
 use Rattle.ct_machine.specs.Acts.Answers.{Done}
-use Rattle.ct_machine.specs.Acts.Arrivals.{next_number, has_room_for, arriving_at}
+use Rattle.ct_machine.specs.Acts.Arrivals.{next_number, has_room_for, arriving_at, arriving_here}
 use Rattle.ct_machine.specs.Acts.Messages.{taking_in, coming_in, coming_to_a, coming_to, delivering_first, messages_to, delivering}
 use Rattle.ct_machine.specs.Acts.Next.{next_step, stepping_next, doing_next}
 use Rattle.ct_machine.specs.Acts.{doing, act_of}
 use Rattle.ct_machine.specs.Runs.{replay, IsRun}
 use Rattle.ct_machine.specs.Laws.Works.{brought, room_without, Brings}
 use Rattle.ct_plan.proofs.Performing.{size_after_all}
+use Rattle.ct_law.proofs.Nodes.{arriving_by, came_in}
 use Rattle.ct_law.proofs.Commands
 use Rattle.ct_law.proofs.Runs.{is_free, Turning, asks, closes_all, comes_to_b, steps, replay-act}
 use Rattle.ct_law.proofs.Comings.{every_run}
@@ -57,7 +59,7 @@ further s t u h k = record { arrivals = k.arrivals ∙ h.arrivals; room = k.room
 -- Events
 
 still_answered : (kind : Kind2) (number : ℕ) (s : State) → Still s (answered kind number s)
-still_answered kind number s = go (came_at_b (arrival_of number s))
+still_answered kind number s = go (came_remote (arrival_of number s))
   where
     go : (t : Bool) → Still s (to_b_if t (message kind number) s)
     go true = record { arrivals = refl; room = refl; size = refl }
@@ -285,19 +287,25 @@ came_then s t u w h k = record { works = ap (λ xs. map (λ (x : Arrival). x.wor
 
 came_first : (number : ℕ) (node : Node) (w : KeptWork) (s : State) → Came s (writes (arrived number node w) s).state w
 unfolding after
-came_first number A (work.Cmd command) s = record { works = map-append (λ (x : Arrival). x.work) s.arrivals (record { node = A; work = work.Cmd command } ∷ []); room = refl; size = refl }
-came_first number A (work.Ask ask) s = record { works = map-append (λ (x : Arrival). x.work) s.arrivals (record { node = A; work = work.Ask ask } ∷ []); room = refl; size = refl }
-came_first number B (work.Cmd command) s = record { works = map-append (λ (x : Arrival). x.work) s.arrivals (record { node = B; work = work.Cmd command } ∷ []); room = refl; size = refl }
-came_first number B (work.Ask ask) s = record { works = map-append (λ (x : Arrival). x.work) s.arrivals (record { node = B; work = work.Ask ask } ∷ []); room = refl; size = refl }
+came_first number node w s = go (is_remote node) w
+  where
+    go : (t : Bool) (w : KeptWork) →
+        Came s (cond {A = State} t (to_a (message (kind_of w) number) (came_in (record { node = node; work = w }) s)) (came_in (record { node = node; work = w }) s)) w
+    go true (work.Cmd command) = record { works = map-append (λ (x : Arrival). x.work) s.arrivals (record { node = node; work = work.Cmd command } ∷ []); room = refl; size = refl }
+    go true (work.Ask ask) = record { works = map-append (λ (x : Arrival). x.work) s.arrivals (record { node = node; work = work.Ask ask } ∷ []); room = refl; size = refl }
+    go false (work.Cmd command) = record { works = map-append (λ (x : Arrival). x.work) s.arrivals (record { node = node; work = work.Cmd command } ∷ []); room = refl; size = refl }
+    go false (work.Ask ask) = record { works = map-append (λ (x : Arrival). x.work) s.arrivals (record { node = node; work = work.Ask ask } ∷ []); room = refl; size = refl }
 
 came_at : (node : Node) (w : KeptWork) (number : ℕ) (s : State) → Came s (arriving_at node w number s).turn.state w
-came_at A (work.Cmd command) number s =
-    let first : Turn = writes (arrived number A (work.Cmd command)) s in
-    came_then s first.state (entering number command first.state).state (work.Cmd command) (came_first number A (work.Cmd command) s) (still_entering number (turned_cause first.state command) first.state)
-came_at A (work.Ask ask) number s =
-    let first : Turn = writes (arrived number A (work.Ask ask)) s in
-    came_then s first.state (asking number ask first.state).state (work.Ask ask) (came_first number A (work.Ask ask) s) (asks StillTurn stills number ask first.state)
-came_at B w number s = came_first number B w s
+came_at node w number s = arriving_by (λ t. Came s t.state w) node w number s (λ there. came_first number node w s) (λ here. taken w)
+  where
+    taken : (w : KeptWork) → Came s (arriving_here node w number s).turn.state w
+    taken (work.Cmd command) =
+        let first : Turn = writes (arrived number node (work.Cmd command)) s in
+        came_then s first.state (entering number command first.state).state (work.Cmd command) (came_first number node (work.Cmd command) s) (still_entering number (turned_cause first.state command) first.state)
+    taken (work.Ask ask) =
+        let first : Turn = writes (arrived number node (work.Ask ask)) s in
+        came_then s first.state (asking number ask first.state).state (work.Ask ask) (came_first number node (work.Ask ask) s) (asks StillTurn stills number ask first.state)
 
 -- Acts
 

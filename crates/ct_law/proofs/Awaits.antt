@@ -31,7 +31,7 @@ use Rattle.ct_machine.specs.declared.act.Answer.TheVariants as answer
 use Rattle.ct_machine.specs.declared.act.Opening.{Opening}
 use Rattle.ct_machine.specs.States.{Stage, Waiting, Here, Granted, There, Over, Task, Open, Message, Arrival, State, opened, disk_of, arrival_of, task_of, function_of, is_here, is_waiting, is_moving, with_task, without_task, at_stage, queued, is_remote}
 use Rattle.ct_machine.specs.Events.{after}
-use Rattle.ct_machine.specs.Events.Sends.{message, stop, to_b_if, answered, came_at_b}
+use Rattle.ct_machine.specs.Events.Sends.{message, stop, to_b_if, answered, came_remote}
 use Rattle.ct_machine.specs.Events.Arrivals.{new_task}
 use Rattle.ct_machine.specs.Events.Moves.{staged, cells_after, further, moved_at, after_moved}
 use Rattle.ct_machine.specs.Events.Ends.{ended_at, after_ended, noted, cut_at, after_cut, is_cleared}
@@ -45,7 +45,7 @@ use Rattle.ct_machine.specs.Acts.Moves.{moving_on, failing, failing_if}
 use Rattle.ct_machine.specs.Acts.Moves.{moved_to, moving_from}
 use Rattle.ct_machine.specs.Acts.Begins.{clearing, clearing_all, ending_at_once, is_granted, beginning_at, beginning}
 use Rattle.ct_machine.specs.Acts.Answers.{Done}
-use Rattle.ct_machine.specs.Acts.Arrivals.{next_number, has_room_for, arriving_at}
+use Rattle.ct_machine.specs.Acts.Arrivals.{next_number, has_room_for, arriving_at, arriving_here}
 use Rattle.ct_machine.specs.Acts.Steps.{blocked_by, beginning_unless, stepping_at, is_sent, stepping}
 use Rattle.ct_machine.specs.Acts.Messages.{taking_in, coming_in, coming_to_a, stopping_at, stopping, coming_to_b, coming_to, delivering_first, messages_to, delivering}
 use Rattle.ct_machine.specs.Acts.Next.{next_step, stepping_next, doing_next}
@@ -62,9 +62,9 @@ use Rattle.ct_law.proofs.Laws.{Laws}
 use Rattle.ct_law.proofs.Walk.{Now, NoneDue, found_open}
 use Rattle.ct_law.proofs.Sends.{is_given, IsFine, fine_single, fine_act, fine_opened, found_none}
 use Rattle.ct_law.proofs.Runs.{run_induction}
-use Rattle.ct_law.proofs.Comings.{acts_so, opened_so, after_arrived, after_a, after_end, is_grant_kind, after_b, after_grant, after_no_grant}
+use Rattle.ct_law.proofs.Comings.{acts_so, opened_so, after_a, after_end, is_grant_kind, after_b, after_grant, after_no_grant}
 use Rattle.ct_law.proofs.Steady.{numbers, Ascending, open_in, noted_numbers, awaits_numbers, ascending_without, ascending_with, in_open, after_entered, after_taken}
-use Rattle.ct_law.proofs.Heard.{came_last}
+use Rattle.ct_law.proofs.Nodes.{arriving_by, after_arrived, came_last}
 
 -- Messages about a command
 
@@ -213,7 +213,7 @@ fewer left now journal ts fs st ms n less h = record {
 }
 
 answers : (left : List ℕ) (journal : List Logged) (k : Kind2) (n : ℕ) (s : State) → AreWaiting left journal s → AreWaiting left journal (answered k n s)
-answers left journal k n s h = go (came_at_b (arrival_of n s))
+answers left journal k n s h = go (came_remote (arrival_of n s))
   where
     go : (t : Bool) → AreWaiting left journal (to_b_if t (message k n) s)
     go true = pushes left journal s.tasks s.functions s.stopped s.to_b (message k n ∷ []) h
@@ -777,21 +777,24 @@ comes : (s : State) (journal : List Logged) (n : ℕ) (node : Node) (w : KeptWor
 comes s journal n node w h = subst (AreWaiting [] (journal ++ arrived n node w ∷ [])) (sym (after_arrived n node w s).1) (more [] journal (arrived n node w) s.tasks s.functions s.stopped s.to_b h)
 
 arrives : (o : Opening) (size : ℕ) (s : State) (journal : List Logged) (node : Node) (w : KeptWork) → Now NoneDue o s journal → IsFine size s → AreWaiting [] journal s → Holds [] journal (arriving_at node w (next_number s) s).turn
-arrives o size s journal B w now f h = wrote [] s journal _ (comes s journal (next_number s) B w h)
-arrives o size s journal A (work.Cmd c) now f h =
-    let n = next_number s in
-    let l : Logged = arrived n A (work.Cmd c) in
-    let first : Turn = writes l s in
-    then [] journal first (entering n c) (enters first.state (journal ++ first.journal) n A c (came_last s A (work.Cmd c))
-    (has_not (is_enter n) journal l (now.inv.frame.books.fresh n (inl (omega arith))).enter refl) (comes s journal n A (work.Cmd c) h))
-arrives o size s journal A (work.Ask ask) now f h =
-    let n = next_number s in
-    let l : Logged = arrived n A (work.Ask ask) in
-    let first : Turn = writes l s in
-    let state = (after_arrived n A (work.Ask ask) s).1 in
-    then [] journal first (asking n ask) (asks first.state (journal ++ first.journal) n A ask (came_last s A (work.Ask ask))
-    (λ i. not_open o s journal n now (now.inv.frame.books.fresh n (inl (omega arith))).asking (subst (λ (t : State). IsIn n (numbers t.functions)) state i))
-    (sure size s first.state (ap (λ (t : State). t.tasks) state) (ap (λ (t : State). t.to_b) state) f) (comes s journal n A (work.Ask ask) h))
+arrives o size s journal node w now f h = arriving_by (Holds [] journal) node w n s (λ there. wrote [] s journal _ (comes s journal n node w h)) (taken w)
+  where
+    n : ℕ
+    n = next_number s
+
+    taken : (w : KeptWork) → is_remote node ≡ false → Holds [] journal (arriving_here node w n s).turn
+    taken (work.Cmd c) here =
+        let l : Logged = arrived n node (work.Cmd c) in
+        let first : Turn = writes l s in
+        then [] journal first (entering n c) (enters first.state (journal ++ first.journal) n node c (came_last s node (work.Cmd c))
+        (has_not (is_enter n) journal l (now.inv.frame.books.fresh n (inl (omega arith))).enter refl) (comes s journal n node (work.Cmd c) h))
+    taken (work.Ask ask) here =
+        let l : Logged = arrived n node (work.Ask ask) in
+        let first : Turn = writes l s in
+        let state = (after_arrived n node (work.Ask ask) s).1 in
+        then [] journal first (asking n ask) (asks first.state (journal ++ first.journal) n node ask (came_last s node (work.Ask ask))
+        (λ i. not_open o s journal n now (now.inv.frame.books.fresh n (inl (omega arith))).asking (subst (λ (t : State). IsIn n (numbers t.functions)) state i))
+        (sure size s first.state (ap (λ (t : State). t.tasks) state) (ap (λ (t : State). t.to_b) state) f) (comes s journal n node (work.Ask ask) h))
 
 -- a command that is over at B is awaited no more
 awaits_from : (n : ℕ) (fs : List Open) (p : Open) → HasOpen (map (awaits_no_more n) fs) p → (q : Open) × HasOpen fs q × (awaits_no_more n q ≡ p)

@@ -13,6 +13,7 @@ use Rattle.ct_book.specs.declared.event.Logged.{Logged}
 use Rattle.ct_book.specs.Journals.{KeptWork, numbered, arrived}
 use Rattle.ct_machine.specs.declared.act.Opening.{Opening}
 use Rattle.ct_machine.specs.States.{Task, Stage, Waiting, Here, Granted, There, Over, Message, Arrival, State, arrival_of, is_waiting, done_at, without_task, with_task, at_stage}
+use Rattle.ct_machine.specs.States.{is_remote}
 use Rattle.ct_machine.specs.Events.Sends.{message}
 use Rattle.ct_machine.specs.Events.Ends.{over_at_b}
 use Rattle.ct_machine.specs.Serial.{serial_disk}
@@ -51,7 +52,7 @@ use Rattle.ct_exec.specs.Controls.{opening_disk}
 use Rattle.std.proofs.lemmas.Option.{same_Some}
 use Rattle.ct_machine.specs.Acts.Entries.{entering}
 use Rattle.ct_machine.specs.Acts.Functions.{asking, closing_all, open_numbers, puts_of}
-use Rattle.ct_machine.specs.Acts.Arrivals.{next_number, has_room_for, arriving_at, arriving}
+use Rattle.ct_machine.specs.Acts.Arrivals.{next_number, has_room_for, arriving_at, arriving, arriving_here}
 use Rattle.ct_machine.specs.Acts.Messages.{taking_in, coming_in, coming_to_a, stopping_at, stopping, coming_to_b, coming_to, delivering_first, messages_to, delivering}
 use Rattle.ct_machine.specs.Acts.Next.{next_step, stepping_next, doing_next}
 use Rattle.ct_machine.specs.Acts.{doing}
@@ -59,6 +60,7 @@ use Rattle.ct_law.proofs.Books.{books_pop, books_quietly}
 use Rattle.ct_law.proofs.Opens.{is_at_b, opens_no_longer}
 use Rattle.ct_law.proofs.Held.{opened_rules, opened_held, opened_size}
 use Rattle.ct_law.proofs.Ends.{granted_rules, granted_held}
+use Rattle.ct_law.proofs.Nodes.{arriving_by, sent_if, after_arrived}
 use Rattle.ct_law.proofs.Steps.{rules_same, holds_same, Comes, came_with, came_so}
 use Rattle.ct_law.proofs.Entries.{entry_over, over_inactive, gone_so, opens_turns}
 use Rattle.ct_law.proofs.Overs.{by_so}
@@ -72,18 +74,6 @@ use Rattle.ct_machine.specs.Laws.Timely.{due_of}
 
 -- Arrivals
 
-abbrev pub sent_if : Node → ℕ → KeptWork → List Message → List Message
-sent_if A n w ms = ms
-sent_if B n w ms = ms ++ message (kind_of w) n ∷ []
-
--- the state that a work leaves that came
-pub after_arrived : (n : ℕ) (node : Node) (w : KeptWork) (s : State) → (room : Room) × (after s (arrived n node w) ≡ came_with s (record { node = node; work = w }) room (sent_if node n w s.to_a))
-unfolding after
-after_arrived n A (work.Cmd c) s = (_, refl)
-after_arrived n A (work.Ask ask) s = (_, refl)
-after_arrived n B (work.Cmd c) s = (_, refl)
-after_arrived n B (work.Ask ask) s = (_, refl)
-
 pub comes_on_its_way : (w : KeptWork) → is_arrival (kind_of w) ≡ true
 comes_on_its_way (work.Cmd c) = refl
 comes_on_its_way (work.Ask ask) = refl
@@ -96,12 +86,12 @@ ends_nothing (work.Ask ask) = refl
 record Came_so (o : Opening) (journal : List Logged) (n : ℕ) (node : Node) (w : KeptWork) (t : Turn) : Type 0 where
   now : After NoneDue o journal t
   came : numbered n t.state.arrivals ≡ Some (record { node = node; work = w })
-  fresh : node ≡ A → Fresh t.state (journal ++ t.journal) n
+  fresh : is_remote node ≡ false → Fresh t.state (journal ++ t.journal) n
 
 came : (o : Opening) (s : State) (journal : List Logged) (node : Node) (w : KeptWork) → Now NoneDue o s journal → Came_so o journal (next_number s) node w (writes (arrived (next_number s) node w) s)
 came o s journal node w h = record {
   now = wrote NoneDue o s next journal e h.schedule state
-      (came_so NoneDue o s journal n node w after_it.0 (sent_if node n w s.to_a) refl h.inv (comes node refl))
+      (came_so NoneDue o s journal n node w after_it.0 (sent_if (is_remote node) n w s.to_a) refl h.inv (comes (is_remote node)))
       h.schedule.worked (untimed o journal e refl);
   came = ap (λ (t : State). numbered n t.arrivals) state ∙ numbered_last n s.arrivals (record { node = node; work = w }) refl;
   fresh = λ k. subst (λ (t : State). Fresh t (journal ++ e ∷ []) n) (sym state) (record {
@@ -117,11 +107,11 @@ came o s journal node w h = record {
     e : Logged
     e = arrived n node w
 
-    after_it : (room : Room) × (after s e ≡ came_with s (record { node = node; work = w }) room (sent_if node n w s.to_a))
+    after_it : (room : Room) × (after s e ≡ came_with s (record { node = node; work = w }) room (sent_if (is_remote node) n w s.to_a))
     after_it = after_arrived n node w s
 
     next : State
-    next = came_with s (record { node = node; work = w }) after_it.0 (sent_if node n w s.to_a)
+    next = came_with s (record { node = node; work = w }) after_it.0 (sent_if (is_remote node) n w s.to_a)
 
     state : after s e ≡ next
     state = after_it.1
@@ -135,24 +125,29 @@ came o s journal node w h = record {
     books : Books (journal ++ e ∷ []) (s.arrivals ++ record { node = node; work = w } ∷ []) s.tasks s.to_a
     books = books_came journal s.arrivals s.tasks s.to_a (record { node = node; work = w }) e (λ m z. z) h.inv.frame.books
 
-    comes : (at : Node) → node ≡ at → Comes s (journal ++ e ∷ []) (sent_if node n w s.to_a) n (record { node = node; work = w })
-    comes A k = subst (λ i. Comes s (journal ++ e ∷ []) (sent_if i n w s.to_a) n (record { node = node; work = w })) (sym k) (record { books = books; gone = λ m z. z })
-    comes B k = subst (λ i. Comes s (journal ++ e ∷ []) (sent_if i n w s.to_a) n (record { node = node; work = w })) (sym k) (record {
+    comes : (t : Bool) → Comes s (journal ++ e ∷ []) (sent_if t n w s.to_a) n (record { node = node; work = w })
+    comes false = record { books = books; gone = λ m z. z }
+    comes true = record {
       books = books_ask (journal ++ e ∷ []) (s.arrivals ++ record { node = node; work = w } ∷ []) s.tasks s.to_a (message (kind_of w) n) books untouched new
           (let size = length-append s.arrivals (record { node = node; work = w } ∷ []) in (omega arith, omega (arith, size)));
       gone = λ m z. sent_other is_end m s.to_a (message (kind_of w) n) (ends_nothing w) z;
-    })
+    }
 
 arrives_so : (laws : Laws) (o : Opening) (s : State) (journal : List Logged) (node : Node) (w : KeptWork) → Now NoneDue o s journal → After NoneDue o journal (arriving_at node w (next_number s) s).turn
-arrives_so laws o s journal A (work.Cmd c) h =
-    let first : Turn = writes (arrived (next_number s) A (work.Cmd c)) s in
-    let k = came o s journal A (work.Cmd c) h in
-    then_so NoneDue o journal first (entering (next_number s) c) (entering_so o first.state (journal ++ first.journal) (next_number s) A c k.now (k.fresh refl) k.came)
-arrives_so laws o s journal A (work.Ask ask) h =
-    let first : Turn = writes (arrived (next_number s) A (work.Ask ask)) s in
-    let k = came o s journal A (work.Ask ask) h in
-    then_so NoneDue o journal first (asking (next_number s) ask) (asking_so laws o first.state (journal ++ first.journal) (next_number s) A ask k.now (k.fresh refl) k.came)
-arrives_so laws o s journal B w h = (came o s journal B w h).now
+arrives_so laws o s journal node w h = arriving_by (After NoneDue o journal) node w n s (λ there. (came o s journal node w h).now) (taken w)
+  where
+    n : ℕ
+    n = next_number s
+
+    taken : (w : KeptWork) → is_remote node ≡ false → After NoneDue o journal (arriving_here node w n s).turn
+    taken (work.Cmd c) here =
+        let first : Turn = writes (arrived n node (work.Cmd c)) s in
+        let k = came o s journal node (work.Cmd c) h in
+        then_so NoneDue o journal first (entering n c) (entering_so o first.state (journal ++ first.journal) n node c k.now (k.fresh here) k.came)
+    taken (work.Ask ask) here =
+        let first : Turn = writes (arrived n node (work.Ask ask)) s in
+        let k = came o s journal node (work.Ask ask) h in
+        then_so NoneDue o journal first (asking n ask) (asking_so laws o first.state (journal ++ first.journal) n node ask k.now (k.fresh here) k.came)
 
 arriving_so : (laws : Laws) (o : Opening) (s : State) (journal : List Logged) (node : Node) (w : KeptWork) → Now NoneDue o s journal → After NoneDue o journal (arriving node w s).turn
 arriving_so laws o s journal node w h = go (has_room_for w s)

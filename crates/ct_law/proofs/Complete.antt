@@ -21,7 +21,8 @@ use Rattle.ct_book.specs.declared.event.Logged.{Logged}
 use Rattle.ct_book.specs.Journals.{KeptWork, numbered, arrived}
 use Rattle.ct_machine.specs.declared.act.Opening.{Opening}
 use Rattle.ct_machine.specs.States.{Task, Stage, Waiting, Here, Granted, There, Over, Open, Message, Arrival, State, opened, arrival_of, task_of, function_of}
-use Rattle.ct_machine.specs.Events.Sends.{message, answered, to_b_if, came_at_b}
+use Rattle.ct_machine.specs.States.{is_remote}
+use Rattle.ct_machine.specs.Events.Sends.{message, answered, to_b_if, came_remote}
 use Rattle.ct_machine.specs.Events.{after}
 use Rattle.ct_machine.specs.Events.Moves.{staged, moved_at, after_moved}
 use Rattle.ct_machine.specs.Events.Ends.{ended_at, after_ended, cut_at, after_cut, noted}
@@ -31,7 +32,7 @@ use Rattle.ct_machine.specs.Events.Arrivals.{after_enter, entered, kind_of}
 use Rattle.ct_machine.specs.Acts.Turns.{Turn, nothing, writes, says, followed}
 use Rattle.ct_machine.specs.Acts.Entries.{turned_cause, entering_with, entering}
 use Rattle.ct_machine.specs.Acts.Functions.{numbers_of, cutting_all, closing, open_numbers, taking_up, asking}
-use Rattle.ct_machine.specs.Acts.Arrivals.{next_number, arriving_at}
+use Rattle.ct_machine.specs.Acts.Arrivals.{next_number, arriving_at, arriving_here}
 use Rattle.ct_machine.specs.Acts.Messages.{taking_in, coming_in, coming_to_a, coming_to_b, delivering_first, messages_to}
 use Rattle.ct_machine.specs.Runs.{replay, IsRun}
 use Rattle.ct_machine.specs.Laws.Journals.{has, is_entry, is_enter}
@@ -41,7 +42,8 @@ use Rattle.ct_law.proofs.Growing.{numbered_older, numbered_last}
 use Rattle.ct_law.proofs.Messages.{is_arrival, push_sent, push_last}
 use Rattle.ct_law.proofs.Walk.{found_open}
 use Rattle.ct_law.proofs.Steps.{came_with}
-use Rattle.ct_law.proofs.Comings.{sent_if, after_arrived, comes_on_its_way, after_a, after_end}
+use Rattle.ct_law.proofs.Nodes.{arriving_by, sent_if, after_arrived}
+use Rattle.ct_law.proofs.Comings.{comes_on_its_way, after_a, after_end}
 use Rattle.ct_word.specs.declared.names.Room.{Room}
 use Rattle.ct_law.proofs.Messages.{is_end}
 use Rattle.ct_law.proofs.Books.{IsAsk}
@@ -72,7 +74,7 @@ same : (s t : State) → t.arrivals ≡ s.arrivals → t.to_a ≡ s.to_a → t.f
 same s t a b c = record { arrivals = a; asks = λ n k. subst (IsAsk n) (sym b) k; functions = λ n k. subst (IsOpenNo n) (sym c) k }
 
 same_answered : (k : Kind2) (n : ℕ) (s t : State) → Keeps s t → Keeps s (answered k n t)
-same_answered k n s t h = go (came_at_b (arrival_of n t))
+same_answered k n s t h = go (came_remote (arrival_of n t))
   where
     go : (b : Bool) → Keeps s (to_b_if b (message k n) t)
     go true = record { arrivals = h.arrivals; asks = h.asks; functions = h.functions }
@@ -223,12 +225,12 @@ unfolding after
 shut number s l (event.Closed n outcome) e c = ap_shut e
   where
     found : (f : Option Open) → ((g : Open) → f ≡ Some g → g.no ≡ n) → Shut number s (answered kind.Response n (closed f s))
-    found None k = by (came_at_b (arrival_of n (closed None s)))
+    found None k = by (came_remote (arrival_of n (closed None s)))
       where
         by : (b : Bool) → Shut number s (to_b_if b (message kind.Response n) s)
         by true = (refl, refl, λ m ne h. h)
         by false = (refl, refl, λ m ne h. h)
-    found (Some g) k = by (came_at_b (arrival_of n (closed (Some g) s)))
+    found (Some g) k = by (came_remote (arrival_of n (closed (Some g) s)))
       where
         less : (m : ℕ) → (m ≡ number → ⊥) → IsOpenNo m s.functions → IsOpenNo m (without_function g.no s.functions)
         less m ne h = open_without g.no s.functions m (λ i. ne (i ∙ k g refl ∙ eqb-true n number c.1)) h
@@ -406,9 +408,12 @@ asks_given n ask node s journal came h = go (nat_le MOST_FUNCTIONS (length s.fun
 
 -- Works and messages come
 
-came_keeps : (node : Node) (w : KeptWork) (s : State) (a : Arrival) (room : Room) (n : ℕ) → IsAsk n s.to_a → IsAsk n (came_with s a room (sent_if node (next_number s) w s.to_a)).to_a
-came_keeps A w s a room n k = k
-came_keeps B w s a room n k = push_sent is_arrival n s.to_a (message (kind_of w) (next_number s)) k
+came_keeps : (node : Node) (w : KeptWork) (s : State) (a : Arrival) (room : Room) (n : ℕ) → IsAsk n s.to_a → IsAsk n (came_with s a room (sent_if (is_remote node) (next_number s) w s.to_a)).to_a
+came_keeps node w s a room n k = go (is_remote node)
+  where
+    go : (t : Bool) → IsAsk n (sent_if t (next_number s) w s.to_a)
+    go false = k
+    go true = push_sent is_arrival n s.to_a (message (kind_of w) (next_number s)) k
 
 -- what was given stays so where the works, what is on its way and what is open stay
 kept_with : (n : ℕ) (w : KeptWork) (s t : State) (journal : List Logged) (l : Logged) → (IsAsk n s.to_a → IsAsk n t.to_a) → (IsOpenNo n s.functions → IsOpenNo n t.functions) → IsGiven n w s journal → IsGiven n w t (journal ++ l ∷ [])
@@ -424,11 +429,11 @@ sent_given : (n : ℕ) (w : KeptWork) (s : State) (journal : List Logged) → Is
 sent_given n (work.Cmd c) s journal k = inr (inr k)
 sent_given n (work.Ask ask) s journal k = inr (inr k)
 
--- behind a work that came, all but this one is given, and this one too where it came at B
+-- behind a work that came, all but this one is given, and this one too where it came at the other node
 record Came_given (node : Node) (w : KeptWork) (s : State) (journal : List Logged) : Type 0 where
   but : GivenBut (next_number s) (after s (arrived (next_number s) node w)) (journal ++ arrived (next_number s) node w ∷ [])
   came : numbered (next_number s) (after s (arrived (next_number s) node w)).arrivals ≡ Some (record { node = node; work = w })
-  sent : node ≡ B → IsAsk (next_number s) (after s (arrived (next_number s) node w)).to_a
+  sent : is_remote node ≡ true → IsAsk (next_number s) (after s (arrived (next_number s) node w)).to_a
 
 came_given : (node : Node) (w : KeptWork) (s : State) (journal : List Logged) → Given s journal → Came_given node w s journal
 came_given node w s journal h = record {
@@ -444,36 +449,39 @@ came_given node w s journal h = record {
     arrival : Arrival
     arrival = record { node = node; work = w }
 
-    k : (room : Room) × (after s e ≡ came_with s arrival room (sent_if node (next_number s) w s.to_a))
+    k : (room : Room) × (after s e ≡ came_with s arrival room (sent_if (is_remote node) (next_number s) w s.to_a))
     k = after_arrived (next_number s) node w s
 
     t : State
-    t = came_with s arrival k.0 (sent_if node (next_number s) w s.to_a)
+    t = came_with s arrival k.0 (sent_if (is_remote node) (next_number s) w s.to_a)
 
     state : after s e ≡ t
     state = k.1
 
-sent_on : (s : State) (w : KeptWork) → Q s (writes (arrived (next_number s) B w) s)
-sent_on s w journal h n a at =
-    let e : Logged = arrived (next_number s) B w in
-    let k = came_given B w s journal h in
+sent_on : (s : State) (node : Node) (w : KeptWork) → is_remote node ≡ true → Q s (writes (arrived (next_number s) node w) s)
+sent_on s node w there journal h n a at =
+    let e : Logged = arrived (next_number s) node w in
+    let k = came_given node w s journal h in
     ⊎_elim
-    (λ (i : n ≡ next_number s). sent_given n a.work (after s e) (journal ++ e ∷ []) (subst (λ j. IsAsk j (after s e).to_a) (sym i) (k.sent refl)))
+    (λ (i : n ≡ next_number s). sent_given n a.work (after s e) (journal ++ e ∷ []) (subst (λ j. IsAsk j (after s e).to_a) (sym i) (k.sent there)))
     (λ (ne : n ≡ next_number s → ⊥). k.but n a at ne)
     (cases_eq n (next_number s))
 
 arrives_given : (s : State) (node : Node) (w : KeptWork) → Q s (arriving_at node w (next_number s) s).turn
-arrives_given s A (work.Cmd c) journal h =
-    let n = next_number s in
-    let first : Turn = writes (arrived n A (work.Cmd c)) s in
-    let k = came_given A (work.Cmd c) s journal h in
-    subst (λ j. Given (entering n c first.state).state j) (append_assoc journal first.journal (entering n c first.state).journal) (enters_given n c A first.state (journal ++ first.journal) k.came k.but)
-arrives_given s A (work.Ask ask) journal h =
-    let n = next_number s in
-    let first : Turn = writes (arrived n A (work.Ask ask)) s in
-    let k = came_given A (work.Ask ask) s journal h in
-    subst (λ j. Given (asking n ask first.state).state j) (append_assoc journal first.journal (asking n ask first.state).journal) (asks_given n ask A first.state (journal ++ first.journal) k.came k.but)
-arrives_given s B w journal h = sent_on s w journal h
+arrives_given s node w = arriving_by (Q s) node w n s (sent_on s node w) (taken w)
+  where
+    n : ℕ
+    n = next_number s
+
+    taken : (w : KeptWork) → is_remote node ≡ false → Q s (arriving_here node w n s).turn
+    taken (work.Cmd c) here journal h =
+        let first : Turn = writes (arrived n node (work.Cmd c)) s in
+        let k = came_given node (work.Cmd c) s journal h in
+        subst (λ j. Given (entering n c first.state).state j) (append_assoc journal first.journal (entering n c first.state).journal) (enters_given n c node first.state (journal ++ first.journal) k.came k.but)
+    taken (work.Ask ask) here journal h =
+        let first : Turn = writes (arrived n node (work.Ask ask)) s in
+        let k = came_given node (work.Ask ask) s journal h in
+        subst (λ j. Given (asking n ask first.state).state j) (append_assoc journal first.journal (asking n ask first.state).journal) (asks_given n ask node first.state (journal ++ first.journal) k.came k.but)
 
 -- the first message to A is delivered
 delivers_a : (s : State) (m : Message) (ms : List Message) → s.to_a ≡ m ∷ ms → Q s (delivering_first A (m ∷ ms) s).turn

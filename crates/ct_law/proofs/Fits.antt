@@ -30,12 +30,13 @@ use Rattle.ct_machine.specs.declared.act.Act.TheVariants as act
 use Rattle.ct_machine.specs.declared.act.Answer.TheVariants as answer
 use Rattle.ct_machine.specs.declared.act.Opening.{Opening}
 use Rattle.ct_machine.specs.States.{Stage, Waiting, Here, Granted, There, Over, Task, Open, Message, Arrival, State, opened, disk_of, arrival_of, task_of, function_of, is_here, is_moving, without_task, with_task, at_stage}
+use Rattle.ct_machine.specs.States.{is_remote}
 use Rattle.ct_machine.specs.Events.Ends.{executed_at_once, is_cleared, ended_at, after_ended, cut_at, after_cut}
-use Rattle.ct_machine.specs.Events.Sends.{message}
+use Rattle.ct_machine.specs.Events.Sends.{message, to_a}
 use Rattle.ct_machine.specs.Events.Moves.{staged, cells_after, further, moved_from, moved_at, after_moved}
 use Rattle.ct_machine.specs.Events.Functions.{is_hit, is_told, taken_up, asked_for, after_asked}
 use Rattle.ct_machine.specs.Events.Deliveries.{awaits_no_more, came_to_a, after_grant, came_to_b}
-use Rattle.ct_machine.specs.Events.Arrivals.{after_came, after_enter}
+use Rattle.ct_machine.specs.Events.Arrivals.{after_came, after_enter, kind_of}
 use Rattle.ct_machine.specs.Events.{after_event, after}
 use Rattle.ct_plan.specs.Pieces.{tried}
 use Rattle.ct_machine.specs.Acts.Turns.{Turn, nothing, writes, says, replies, followed}
@@ -47,7 +48,7 @@ use Rattle.ct_machine.specs.Acts.Moves.{moved_to, moving_from}
 use Rattle.ct_machine.specs.Acts.Begins.{clearing, clearing_all, ending_at_once, is_granted, beginning_at}
 use Rattle.ct_machine.specs.Acts.Begins.{beginning}
 use Rattle.ct_machine.specs.Acts.Answers.{Done}
-use Rattle.ct_machine.specs.Acts.Arrivals.{next_number, has_room_for, arriving_at, arriving}
+use Rattle.ct_machine.specs.Acts.Arrivals.{next_number, has_room_for, arriving_at, arriving, arriving_here}
 use Rattle.ct_machine.specs.Acts.Steps.{blocked_by}
 use Rattle.ct_machine.specs.Acts.Steps.{beginning_unless, stepping_at, is_sent, stepping}
 use Rattle.ct_machine.specs.Acts.Messages.{taking_in, coming_in, coming_to_a}
@@ -55,6 +56,7 @@ use Rattle.ct_machine.specs.Acts.Messages.{stopping_at, stopping, coming_to_b, d
 use Rattle.ct_machine.specs.Acts.Next.{next_step, stepping_next, doing_next}
 use Rattle.ct_machine.specs.Acts.{doing}
 use Rattle.ct_machine.specs.Runs.{replay, IsRun}
+use Rattle.ct_law.proofs.Nodes.{arriving_by, came_in, came_by, came_last}
 use Rattle.ct_law.proofs.Tasks.{Has, has_found, has_without}
 use Rattle.ct_plan.proofs.Performing.{made_within}
 use Rattle.ct_law.proofs.Messages.{is_arrival, is_end}
@@ -65,7 +67,7 @@ use Rattle.ct_law.proofs.Execs.{tried_take}
 use Rattle.ct_law.proofs.Growing.{numbered_last}
 use Rattle.ct_law.proofs.Opens.{IsIn}
 use Rattle.ct_law.proofs.Runs.{cuts, run_induction}
-use Rattle.ct_law.proofs.Sends.{one_if, Fine, IsFine, Keeps, fine_free, fine_turning, fine_single, fine_other, fine_came_a, come_b, found_none, fine_act, fine_opened}
+use Rattle.ct_law.proofs.Sends.{one_if, Fine, IsFine, Keeps, fine_free, fine_turning, fine_single, fine_other, fine_came_here, come_b, found_none, fine_act, fine_opened}
 use Rattle.ct_law.proofs.Weights.{weight, work_weight, arrival_weight, weigh, left, left_low, is_struck, total_fewer, found_with, found_itself, weigh_push, weigh_came, a_work, left_answered, left_begun, left_granted, left_grant, left_moved, left_ended, left_at_once, left_cleared, left_failed, left_stopped, left_cut, left_low-same, left_taken, left_closed, left_rejected, left_entered, found_function}
 
 -- what a turn writes and leaves is covered by what was left, and by this much that was kept for it
@@ -489,59 +491,58 @@ costs_delivering laws n s node h = go (messages_to node s) refl
 
 -- Arrivals
 
-room_left : (n : ℕ) (s : State) (w : KeptWork) → has_room_for w s ≡ true → IsFine n s → left n (after_came (next_number s) A (Some w) s) + work_weight n w + 2 ≤ left n s
-room_left n s (work.Cmd command) e h =
+room_left : (n : ℕ) (s : State) (node : Node) (w : KeptWork) → has_room_for w s ≡ true → IsFine n s → left n (came_in (record { node = node; work = w }) s) + work_weight n w + 2 ≤ left n s
+room_left n s node (work.Cmd command) e h =
     let parts = and_parts (nat_lt 0 s.room.commands) (nat_le (length (plan_in (length s.blocks) command)) s.room.pieces) e in
     let a = ltb-true 0 s.room.commands parts.0 in
     let b = leb-true (length (plan_in (length s.blocks) command)) s.room.pieces parts.1 in
     let c : length (plan_in (length s.blocks) command) ≡ length (plan_in n command) = ap (λ m. length (plan_in m command)) h.sized in
-    let d = weigh_came n s (record { node = A; work = work.Cmd command }) h in
+    let d = weigh_came n s (record { node = node; work = work.Cmd command }) h in
     omega (arith, a, b, c, d)
-room_left n s (work.Ask ask) e h =
+room_left n s node (work.Ask ask) e h =
     let a = ltb-true 0 s.room.functions e in
-    let d = weigh_came n s (record { node = A; work = work.Ask ask }) h in
+    let d = weigh_came n s (record { node = node; work = work.Ask ask }) h in
     omega (arith, a, d)
+
+room_left_here : (n : ℕ) (s : State) (node : Node) (w : KeptWork) → is_remote node ≡ false → has_room_for w s ≡ true → IsFine n s → left n (after_came (next_number s) node (Some w) s) + work_weight n w + 2 ≤ left n s
+room_left_here n s node w here e h =
+    came_by (λ t. left n t + work_weight n w + 2 ≤ left n s) (next_number s) node w s false here (room_left n s node w e h)
 
 last_arrival : (s : State) (node : Node) (w : KeptWork) → numbered (next_number s) (s.arrivals ++ record { node = node; work = w } ∷ []) ≡ Some (record { node = node; work = w })
 last_arrival s node w = numbered_last (next_number s) s.arrivals (record { node = node; work = w }) refl
 
--- what came at B is on its way
-room_left_b : (n : ℕ) (s : State) (w : KeptWork) → has_room_for w s ≡ true → IsFine n s → left n (after_came (next_number s) B (Some w) s) + 1 ≤ left n s
-room_left_b n s (work.Cmd command) e h =
-    let parts = and_parts (nat_lt 0 s.room.commands) (nat_le (length (plan_in (length s.blocks) command)) s.room.pieces) e in
-    let a = ltb-true 0 s.room.commands parts.0 in
-    let b = leb-true (length (plan_in (length s.blocks) command)) s.room.pieces parts.1 in
-    let c : length (plan_in (length s.blocks) command) ≡ length (plan_in n command) = ap (λ m. length (plan_in m command)) h.sized in
-    let new : Arrival = record { node = B; work = work.Cmd command } in
-    let d = weigh_came n s new h in
-    let p = weigh_push n (s.arrivals ++ new ∷ []) s.to_a (message kind.Ask (next_number s)) in
-    let q = ap (arrival_weight n) (last_arrival s B (work.Cmd command)) in
-    omega (arith, a, b, c, d, p, q)
-room_left_b n s (work.Ask ask) e h =
-    let a = ltb-true 0 s.room.functions e in
-    let new : Arrival = record { node = B; work = work.Ask ask } in
-    let d = weigh_came n s new h in
-    let p = weigh_push n (s.arrivals ++ new ∷ []) s.to_a (message kind.Function (next_number s)) in
-    let q = ap (arrival_weight n) (last_arrival s B (work.Ask ask)) in
-    omega (arith, a, d, p, q)
+-- what came at the other node is on its way
+room_left_there : (n : ℕ) (s : State) (node : Node) (w : KeptWork) → is_remote node ≡ true → has_room_for w s ≡ true → IsFine n s → left n (after_came (next_number s) node (Some w) s) + 1 ≤ left n s
+room_left_there n s node w there e h = came_by (λ t. left n t + 1 ≤ left n s) (next_number s) node w s true there (go w (room_left n s node w e h))
+  where
+    go : (w : KeptWork) → left n (came_in (record { node = node; work = w }) s) + work_weight n w + 2 ≤ left n s →
+        left n (to_a (message (kind_of w) (next_number s)) (came_in (record { node = node; work = w }) s)) + 1 ≤ left n s
+    go (work.Cmd command) a =
+        let p = weigh_push n (s.arrivals ++ record { node = node; work = work.Cmd command } ∷ []) s.to_a (message kind.Ask (next_number s)) in
+        let q = ap (arrival_weight n) (last_arrival s node (work.Cmd command)) in
+        omega (arith, a, p, q)
+    go (work.Ask ask) a =
+        let p = weigh_push n (s.arrivals ++ record { node = node; work = work.Ask ask } ∷ []) s.to_a (message kind.Function (next_number s)) in
+        let q = ap (arrival_weight n) (last_arrival s node (work.Ask ask)) in
+        omega (arith, a, p, q)
 
-arrival_last : (s : State) (w : KeptWork) → arrival_of (next_number s) (after_came (next_number s) A (Some w) s) ≡ Some (record { node = A; work = w })
-arrival_last s (work.Cmd command) = last_arrival s A (work.Cmd command)
-arrival_last s (work.Ask ask) = last_arrival s A (work.Ask ask)
+costs_taken : (laws : Laws) (n : ℕ) (s : State) (node : Node) (w : KeptWork) → has_room_for w s ≡ true → IsFine n s → is_remote node ≡ false → Costs n 0 s (arriving_here node w (next_number s) s).turn
+unfolding after
+costs_taken laws n s node (work.Cmd command) e h here =
+    let now : State = after_came (next_number s) node (Some (work.Cmd command)) s in
+    let a = room_left_here n s node (work.Cmd command) here e h in
+    let c = costs_in laws n now (next_number s) (record { node = node; work = work.Cmd command }) (work.Cmd command) (came_last s node (work.Cmd command)) refl (fine_came_here n s node (work.Cmd command) here h).0 in
+    omega (arith, a, c)
+costs_taken laws n s node (work.Ask ask) e h here =
+    let now : State = after_came (next_number s) node (Some (work.Ask ask)) s in
+    let a = room_left_here n s node (work.Ask ask) here e h in
+    let c = costs_in laws n now (next_number s) (record { node = node; work = work.Ask ask }) (work.Ask ask) (came_last s node (work.Ask ask)) refl (fine_came_here n s node (work.Ask ask) here h).0 in
+    omega (arith, a, c)
 
 costs_came : (laws : Laws) (n : ℕ) (s : State) (node : Node) (w : KeptWork) → has_room_for w s ≡ true → IsFine n s → Costs n 0 s (arriving_at node w (next_number s) s).turn
 unfolding after
-costs_came laws n s A (work.Cmd command) e h =
-    let now : State = after_came (next_number s) A (Some (work.Cmd command)) s in
-    let a = room_left n s (work.Cmd command) e h in
-    let c = costs_in laws n now (next_number s) (record { node = A; work = work.Cmd command }) (work.Cmd command) (arrival_last s (work.Cmd command)) refl (fine_came_a n s (work.Cmd command) h).0 in
-    omega (arith, a, c)
-costs_came laws n s A (work.Ask ask) e h =
-    let now : State = after_came (next_number s) A (Some (work.Ask ask)) s in
-    let a = room_left n s (work.Ask ask) e h in
-    let c = costs_in laws n now (next_number s) (record { node = A; work = work.Ask ask }) (work.Ask ask) (arrival_last s (work.Ask ask)) refl (fine_came_a n s (work.Ask ask) h).0 in
-    omega (arith, a, c)
-costs_came laws n s B w e h = let a = room_left_b n s w e h in omega (arith, a)
+costs_came laws n s node w e h =
+    arriving_by (Costs n 0 s) node w (next_number s) s (λ there. let a = room_left_there n s node w there e h in omega (arith, a)) (costs_taken laws n s node w e h)
 
 costs_arriving : (laws : Laws) (n : ℕ) (s : State) (node : Node) (w : KeptWork) → IsFine n s → Costs n 0 s (arriving node w s).turn
 costs_arriving laws n s node w h = go (has_room_for w s) refl

@@ -30,6 +30,7 @@ use Rattle.ct_machine.specs.declared.act.Act.TheVariants as act
 use Rattle.ct_machine.specs.declared.act.Answer.TheVariants as answer
 use Rattle.ct_machine.specs.declared.act.Opening.{Opening}
 use Rattle.ct_machine.specs.States.{Stage, Waiting, Here, Granted, There, Over, Task, Open, Message, Arrival, State, opened, disk_of, arrival_of, task_of, function_of, is_here, is_waiting}
+use Rattle.ct_machine.specs.States.{is_remote}
 use Rattle.ct_machine.specs.Events.{after}
 use Rattle.ct_machine.specs.Events.Ends.{is_cleared, cut_at, after_cut}
 use Rattle.ct_machine.specs.Events.Functions.{is_hit, is_told}
@@ -42,7 +43,7 @@ use Rattle.ct_machine.specs.Acts.Moves.{moving_on, failing, failing_if}
 use Rattle.ct_machine.specs.Acts.Moves.{moved_to, moving_from, moving}
 use Rattle.ct_machine.specs.Acts.Begins.{clearing, clearing_all, ending_at_once, is_granted, beginning_at, beginning}
 use Rattle.ct_machine.specs.Acts.Answers.{Done}
-use Rattle.ct_machine.specs.Acts.Arrivals.{next_number, has_room_for, arriving_at}
+use Rattle.ct_machine.specs.Acts.Arrivals.{next_number, has_room_for, arriving_at, arriving_here}
 use Rattle.ct_machine.specs.Acts.Steps.{blocked_by, beginning_unless, stepping_at, is_sent, stepping}
 use Rattle.ct_machine.specs.Acts.Messages.{taking_in, coming_in, coming_to_a, stopping_at, stopping, coming_to_b, coming_to, delivering_first, messages_to, delivering}
 use Rattle.ct_machine.specs.Acts.Next.{next_step, stepping_next, doing_next}
@@ -56,7 +57,7 @@ use Rattle.ct_machine.specs.Laws.Journals.{EachBehind, Each, has, is_begin, is_a
 use Rattle.ct_machine.specs.Laws.Functions.{told_aborts_at, IsToldAt, IsOutcomeOf, IsAnsweredAt, NoneIsOpen, BeginsAlone, closed_by, last_closed, ClosesInOrder}
 use Rattle.ct_law.proofs.Tasks.{Has, has_found}
 use Rattle.ct_law.proofs.Journal.{has_stays, has_now, has_not, unstarted}
-use Rattle.ct_law.proofs.Growing.{numbered-map, numbered_last}
+use Rattle.ct_law.proofs.Growing.{numbered-map}
 use Rattle.ct_law.proofs.Messages.{is_arrival, is_stop}
 use Rattle.ct_law.proofs.Books.{IsAsk, is_over}
 use Rattle.ct_law.proofs.Opens.{IsIn, HasOpen}
@@ -65,7 +66,8 @@ use Rattle.ct_law.proofs.Walk.{Now, NoneDue, found_open}
 use Rattle.ct_law.proofs.Laws.{Laws}
 use Rattle.ct_law.proofs.Runs.{run_induction}
 use Rattle.ct_law.proofs.Sends.{IsFine, fine_act, fine_opened}
-use Rattle.ct_law.proofs.Comings.{acts_so, opened_so, after_arrived}
+use Rattle.ct_law.proofs.Comings.{acts_so, opened_so}
+use Rattle.ct_law.proofs.Nodes.{arriving_by, after_arrived, came_last}
 use Rattle.ct_law.proofs.Steady.{HasMessage, numbers, Ascending, Telling, Steady, is_plain, told_stays, told_now, arrivals_keep, delivered_control, asked_keeps, steady_event, steady_came, steady_entered, steady_asked}
 
 -- what a journal owes of functions at an event
@@ -101,9 +103,6 @@ plainly : (o : Opening) (s : State) (journal : List Logged) (l : Logged) → l.w
 plainly o s journal l no_work plain owed h = wrote o s journal l owed (steady_event o s journal l no_work plain h)
 
 -- What events leave
-
-pub came_last : (s : State) (node : Node) (w : KeptWork) → numbered (next_number s) (after s (arrived (next_number s) node w)).arrivals ≡ Some (record { node = node; work = w })
-came_last s node w = ap (λ (t : State). numbered (next_number s) t.arrivals) (after_arrived (next_number s) node w s).1 ∙ numbered_last (next_number s) s.arrivals (record { node = node; work = w }) refl
 
 came_control : (n : ℕ) (node : Node) (w : KeptWork) (s : State) → (after s (arrived n node w)).control ≡ s.control
 came_control n node w s = ap (λ (t : State). t.control) (after_arrived n node w s).1
@@ -446,22 +445,25 @@ comes : (o : Opening) (s : State) (journal : List Logged) (n : ℕ) (node : Node
 comes o s journal n node w h = wrote o s journal (arrived n node w) (record { tells = tt; answers = tt; waits = tt; closes = tt }) (steady_came o s journal n node w h)
 
 arrives : (o : Opening) (s : State) (journal : List Logged) (node : Node) (w : KeptWork) → Now NoneDue o s journal → Steady o s journal → Heard o journal (arriving_at node w (next_number s) s).turn
-arrives o s journal B w now h = comes o s journal (next_number s) B w h
-arrives o s journal A (work.Cmd c) now h =
-    let n = next_number s in
-    let first : Turn = writes (arrived n A (work.Cmd c)) s in
-    let k = comes o s journal n A (work.Cmd c) h in
-    then o journal first (entering n c) k (enters o first.state (journal ++ first.journal) n A c (came_last s A (work.Cmd c)) k.steady)
-arrives o s journal A (work.Ask ask) now h =
-    let n = next_number s in
-    let l : Logged = arrived n A (work.Ask ask) in
-    let first : Turn = writes l s in
-    let k = comes o s journal n A (work.Ask ask) h in
-    then o journal first (asking n ask) k
-    (asks o first.state (journal ++ first.journal) n A ask (came_last s A (work.Ask ask))
-    (has_not (is_asked n) journal l (now.inv.frame.books.fresh n (inl (omega arith))).asking refl)
-    (came_control n A (work.Ask ask) s ∙ now.inv.rules.control ∙ ap (λ (d : Disk). d.control) (sym (serial-same o journal l refl)))
-    (last_now journal l) k.steady)
+arrives o s journal node w now h = arriving_by (Heard o journal) node w n s (λ there. comes o s journal n node w h) (taken w)
+  where
+    n : ℕ
+    n = next_number s
+
+    taken : (w : KeptWork) → is_remote node ≡ false → Heard o journal (arriving_here node w n s).turn
+    taken (work.Cmd c) here =
+        let first : Turn = writes (arrived n node (work.Cmd c)) s in
+        let k = comes o s journal n node (work.Cmd c) h in
+        then o journal first (entering n c) k (enters o first.state (journal ++ first.journal) n node c (came_last s node (work.Cmd c)) k.steady)
+    taken (work.Ask ask) here =
+        let l : Logged = arrived n node (work.Ask ask) in
+        let first : Turn = writes l s in
+        let k = comes o s journal n node (work.Ask ask) h in
+        then o journal first (asking n ask) k
+        (asks o first.state (journal ++ first.journal) n node ask (came_last s node (work.Ask ask))
+        (has_not (is_asked n) journal l (now.inv.frame.books.fresh n (inl (omega arith))).asking refl)
+        (came_control n node (work.Ask ask) s ∙ now.inv.rules.control ∙ ap (λ (d : Disk). d.control) (sym (serial-same o journal l refl)))
+        (last_now journal l) k.steady)
 
 delivers_a : (o : Opening) (s : State) (journal : List Logged) (m : Message) (ms : List Message) → s.to_a ≡ m ∷ ms → Now NoneDue o s journal → Steady o s journal → Heard o journal (delivering_first A (m ∷ ms) s).turn
 delivers_a o s journal m ms to now h = then o journal first (coming_to A m) k (go m.kind refl)

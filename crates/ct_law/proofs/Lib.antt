@@ -15,6 +15,7 @@ pub mod Ends
 pub mod Opens
 pub mod Inv
 pub mod Steps
+pub mod Nodes
 pub mod Entries
 pub mod Moves
 pub mod Overs

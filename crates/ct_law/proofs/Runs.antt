@@ -25,6 +25,7 @@ use Rattle.ct_machine.specs.declared.act.Act.TheVariants as act
 use Rattle.ct_machine.specs.declared.act.Answer.TheVariants as answer
 use Rattle.ct_machine.specs.declared.act.Opening.{Opening}
 use Rattle.ct_machine.specs.States.{Stage, Waiting, Here, Granted, There, Over, Task, Open, Message, Arrival, State, opened, disk_of, arrival_of, task_of, function_of, is_here}
+use Rattle.ct_machine.specs.States.{is_remote}
 use Rattle.ct_machine.specs.Events.{after, after_events}
 use Rattle.ct_machine.specs.Events.Ends.{is_cleared}
 use Rattle.ct_machine.specs.Events.Functions.{is_hit, is_told}
@@ -38,7 +39,7 @@ use Rattle.ct_machine.specs.Acts.Moves.{moved_to, moving_from, moving}
 use Rattle.ct_machine.specs.Acts.Begins.{clearing, clearing_all, ending_at_once, is_granted}
 use Rattle.ct_machine.specs.Acts.Begins.{beginning_at, beginning}
 use Rattle.ct_machine.specs.Acts.Answers.{Done}
-use Rattle.ct_machine.specs.Acts.Arrivals.{next_number, has_room_for, arriving_at, arriving}
+use Rattle.ct_machine.specs.Acts.Arrivals.{next_number, has_room_for, arriving_at, arriving, arriving_here}
 use Rattle.ct_machine.specs.Acts.Steps.{blocked_by, beginning_unless, stepping_at, is_sent, stepping}
 use Rattle.ct_machine.specs.Acts.Messages.{taking_in, coming_in}
 use Rattle.ct_machine.specs.Acts.Messages.{coming_to_a, stopping_at, stopping, coming_to_b, coming_to, delivering_first}
@@ -47,6 +48,7 @@ use Rattle.ct_machine.specs.Acts.Next.{next_step, stepping_next, doing_next}
 use Rattle.ct_machine.specs.Acts.{doing, act_of}
 use Rattle.ct_machine.specs.Runs.{replay, IsAllowed, Move, written, journal_of, IsRun}
 use Rattle.ct_law.proofs.Growing.{replay-append}
+use Rattle.ct_law.proofs.Nodes.{arriving_by}
 
 -- an event that no arrival or message brings
 abbrev pub is_free : Event → Bool
@@ -296,13 +298,15 @@ leads_to A m s = leads_a m.kind m s
 leads_to B m s = comes_to_b Leads leads m.kind m s
 
 leads_came : (s : State) (node : Node) (w : KeptWork) → Leads s (arriving_at node w (next_number s) s).turn
-leads_came s A (work.Cmd command) =
-    let first : Turn = writes (arrived (next_number s) A (work.Cmd command)) s in
-    leads_both s first (entering (next_number s) command) refl (leads_entering (next_number s) (turned_cause first.state command) first.state)
-leads_came s A (work.Ask ask) =
-    let first : Turn = writes (arrived (next_number s) A (work.Ask ask)) s in
-    leads_both s first (asking (next_number s) ask) refl (asks Leads leads (next_number s) ask first.state)
-leads_came s B w = refl
+leads_came s node w = arriving_by (Leads s) node w (next_number s) s (λ there. refl) (taken w)
+  where
+    taken : (w : KeptWork) → is_remote node ≡ false → Leads s (arriving_here node w (next_number s) s).turn
+    taken (work.Cmd command) here =
+        let first : Turn = writes (arrived (next_number s) node (work.Cmd command)) s in
+        leads_both s first (entering (next_number s) command) refl (leads_entering (next_number s) (turned_cause first.state command) first.state)
+    taken (work.Ask ask) here =
+        let first : Turn = writes (arrived (next_number s) node (work.Ask ask)) s in
+        leads_both s first (asking (next_number s) ask) refl (asks Leads leads (next_number s) ask first.state)
 
 pub doing-state : (s : State) (a : Act) (fault : Option ℕ) → (doing s a fault).turn.state ≡ after_events s (doing s a fault).turn.journal
 doing-state s a fault = acts Leads (record {

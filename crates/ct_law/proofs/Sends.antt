@@ -21,8 +21,9 @@ use Rattle.ct_exec.specs.Executions.{Execution, execute, plan_in}
 use Rattle.ct_machine.specs.declared.act.Act.{Act}
 use Rattle.ct_machine.specs.declared.act.Opening.{Opening}
 use Rattle.ct_machine.specs.States.{Stage, Waiting, Here, Granted, There, Over, Task, Open, Message, Arrival, State, opened, disk_of, arrival_of, task_of, function_of, is_waiting, without_task, with_task, at_stage, waits, queued}
-use Rattle.ct_machine.specs.Events.Sends.{message, to_b_if, came_at_b, answered}
-use Rattle.ct_machine.specs.Events.Arrivals.{new_task, after_enter, entered, after_came}
+use Rattle.ct_machine.specs.States.{is_remote}
+use Rattle.ct_machine.specs.Events.Sends.{message, to_b_if, came_remote, answered, to_a}
+use Rattle.ct_machine.specs.Events.Arrivals.{new_task, after_enter, entered, after_came, kind_of}
 use Rattle.ct_machine.specs.Events.Moves.{staged, cells_after, further, moved_from, moved_at, after_moved}
 use Rattle.ct_machine.specs.Events.Ends.{leaves, over_at_b, stops_with, executed_at_once, ended_at, after_ended, cut_at, after_cut}
 use Rattle.ct_machine.specs.Events.Functions.{asked_for, after_asked, closed}
@@ -32,8 +33,9 @@ use Rattle.ct_machine.specs.Acts.Turns.{Turn}
 use Rattle.ct_machine.specs.Acts.Entries.{turned_cause, entering_with}
 use Rattle.ct_machine.specs.Acts.Messages.{taking_in, coming_in, coming_to_a, coming_to_b, delivering_first, messages_to}
 use Rattle.ct_machine.specs.Acts.Functions.{open_numbers}
-use Rattle.ct_machine.specs.Acts.Arrivals.{next_number, arriving_at}
+use Rattle.ct_machine.specs.Acts.Arrivals.{next_number, arriving_at, arriving_here}
 use Rattle.ct_machine.specs.Acts.{doing}
+use Rattle.ct_law.proofs.Nodes.{arriving_by, came_in, came_by}
 use Rattle.ct_law.proofs.Tasks.{Has, has_found, has_without, has_with, has_queued}
 use Rattle.ct_law.proofs.Messages.{is_arrival, is_end, is_grant, Sent, push_sent, push_last, append_sent}
 use Rattle.ct_law.proofs.Books.{is_over}
@@ -202,7 +204,7 @@ fine_blocks : (size : ℕ) (s : State) (blocks : List (List ℕ)) → length blo
 fine_blocks size s blocks e h = record { single = h.single; new = h.new; told = h.told; sized = e ∙ h.sized }
 
 fine_answered : (size : ℕ) (s : State) (k : Kind2) (n : ℕ) → IsFine size s → IsFine size (answered k n s)
-fine_answered size s k n h = go (came_at_b (arrival_of n s))
+fine_answered size s k n h = go (came_remote (arrival_of n s))
   where
     go : (t : Bool) → IsFine size (to_b_if t (message k n) s)
     go true = fine_b size s (message k n ∷ []) h
@@ -343,9 +345,12 @@ fine_arrival size s node w h =
       record { none = h.new (next_number s) (omega arith); within = omega (arith, more) },
     )
 
-pub fine_came_a : (size : ℕ) (s : State) (w : KeptWork) → IsFine size s → IsFineWith size (next_number s) (after_came (next_number s) A (Some w) s)
-fine_came_a size s (work.Cmd command) h = fine_arrival size s A (work.Cmd command) h
-fine_came_a size s (work.Ask ask) h = fine_arrival size s A (work.Ask ask) h
+pub fine_came_here : (size : ℕ) (s : State) (node : Node) (w : KeptWork) → is_remote node ≡ false → IsFine size s → IsFineWith size (next_number s) (after_came (next_number s) node (Some w) s)
+fine_came_here size s node w here h = came_by (IsFineWith size (next_number s)) (next_number s) node w s false here (go w)
+  where
+    go : (w : KeptWork) → IsFineWith size (next_number s) (came_in (record { node = node; work = w }) s)
+    go (work.Cmd command) = fine_arrival size s node (work.Cmd command) h
+    go (work.Ask ask) = fine_arrival size s node (work.Ask ask) h
 
 fine_ask : (size : ℕ) (s : State) (m : Message) → IsFree m.no s.arrivals s.tasks s.to_a → IsFine size s → IsFine size (record s { to_a = s.to_a ++ m ∷ [] })
 fine_ask size s m i h = record {
@@ -363,9 +368,15 @@ fine_ask size s m i h = record {
     fits n true e a k = let z : in_tasks n s.tasks + in_messages n s.to_a ≡ 0 = subst (λ j. in_tasks j s.tasks + in_messages j s.to_a ≡ 0) (eqb-true m.no n e) i.none in omega (arith, a, z)
     fits n false e a k = omega (arith, a, k)
 
-pub fine_came_b : (size : ℕ) (s : State) (w : KeptWork) → IsFine size s → IsFine size (after_came (next_number s) B (Some w) s)
-fine_came_b size s (work.Cmd command) h = let f = fine_arrival size s B (work.Cmd command) h in fine_ask size (with_arrival s B (work.Cmd command)) (message kind.Ask (next_number s)) f.1 f.0
-fine_came_b size s (work.Ask ask) h = let f = fine_arrival size s B (work.Ask ask) h in fine_ask size (with_arrival s B (work.Ask ask)) (message kind.Function (next_number s)) f.1 f.0
+pub fine_came_there : (size : ℕ) (s : State) (node : Node) (w : KeptWork) → is_remote node ≡ true → IsFine size s → IsFine size (after_came (next_number s) node (Some w) s)
+fine_came_there size s node w there h = came_by (IsFine size) (next_number s) node w s true there (go w)
+  where
+    f : (w : KeptWork) → IsFineWith size (next_number s) (with_arrival s node w)
+    f w = fine_arrival size s node w h
+
+    go : (w : KeptWork) → IsFine size (to_a (message (kind_of w) (next_number s)) (came_in (record { node = node; work = w }) s))
+    go (work.Cmd command) = fine_ask size (with_arrival s node (work.Cmd command)) (message kind.Ask (next_number s)) (f (work.Cmd command)).1 (f (work.Cmd command)).0
+    go (work.Ask ask) = fine_ask size (with_arrival s node (work.Ask ask)) (message kind.Function (next_number s)) (f (work.Ask ask)).1 (f (work.Ask ask)).0
 
 -- a command enters
 fine_entered : (size : ℕ) (s : State) (n : ℕ) (node : Node) (w : KeptWork) → IsFineWith size n s → IsFine size (entered n node w s)
@@ -411,16 +422,19 @@ fine_coming : (laws : Laws) (size : ℕ) (s : State) (n : ℕ) (found : Option A
 fine_coming laws size s n None h = h.0
 fine_coming laws size s n (Some arrival) h = fine_in laws size s n arrival.work h
 
+fine_taken : (laws : Laws) (size : ℕ) (s : State) (node : Node) (w : KeptWork) → is_remote node ≡ false → Keeps size s (arriving_here node w (next_number s) s).turn
+unfolding after
+fine_taken laws size s node (work.Cmd command) here h =
+    let now : State = after_came (next_number s) node (Some (work.Cmd command)) s in
+    fine_entering laws size now (next_number s) (turned_cause now command) (fine_came_here size s node (work.Cmd command) here h)
+fine_taken laws size s node (work.Ask ask) here h =
+    let now : State = after_came (next_number s) node (Some (work.Ask ask)) s in
+    asks (Keeps size) (fine_turning laws size) (next_number s) ask now (fine_came_here size s node (work.Ask ask) here h).0
+
 fine_came : (laws : Laws) (size : ℕ) (s : State) (node : Node) (w : KeptWork) → Keeps size s (arriving_at node w (next_number s) s).turn
 unfolding after
-fine_came laws size s A (work.Cmd command) h =
-    let f = fine_came_a size s (work.Cmd command) h in
-    let now : State = after_came (next_number s) A (Some (work.Cmd command)) s in
-    fine_entering laws size now (next_number s) (turned_cause now command) f
-fine_came laws size s A (work.Ask ask) h =
-    let f = fine_came_a size s (work.Ask ask) h in
-    asks (Keeps size) (fine_turning laws size) (next_number s) ask (after_came (next_number s) A (Some (work.Ask ask)) s) f.0
-fine_came laws size s B w h = fine_came_b size s w h
+fine_came laws size s node w =
+    arriving_by (Keeps size s) node w (next_number s) s (fine_came_there size s node w) (fine_taken laws size s node w)
 
 -- a message is taken
 pub fine_other : (size : ℕ) (arrivals : List Arrival) (tasks : List Task) (m : Message) (ms to_b : List Message) (blocks : List (List ℕ)) → is_end m.kind ≡ false → Fine size arrivals tasks (m ∷ ms) to_b blocks → Fine size arrivals tasks ms to_b blocks

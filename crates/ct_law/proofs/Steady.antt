@@ -21,7 +21,7 @@ use Rattle.ct_book.specs.declared.event.Logged.{Logged}
 use Rattle.ct_book.specs.Journals.{KeptWork, numbered, works_in, arrived}
 use Rattle.ct_machine.specs.declared.act.Opening.{Opening}
 use Rattle.ct_machine.specs.States.{Task, Stage, Waiting, Here, Granted, There, Over, Open, Message, Arrival, State, disk_of, arrival_of, task_of, function_of, with_task, without_task, at_stage, queued}
-use Rattle.ct_machine.specs.Events.Sends.{message, stop, to_b_if, answered, came_at_b}
+use Rattle.ct_machine.specs.Events.Sends.{message, stop, to_b_if, answered, came_remote}
 use Rattle.ct_machine.specs.Events.Ends.{stops_with, is_cleared, ended_at, after_ended, noted, cut_at, after_cut}
 use Rattle.ct_machine.specs.Events.Functions.{stops_by, wants_stop, is_told, awaited_by, with_function, taken_up, after_asked, without_function, closed, works_of}
 use Rattle.ct_machine.specs.Events.Arrivals.{new_task, after_enter}
@@ -44,7 +44,7 @@ use Rattle.ct_law.proofs.Opens.{IsIn, HasOpen, has_without_function, has_with_fu
 use Rattle.ct_law.proofs.Inv.{told}
 use Rattle.ct_law.proofs.Steps.{came_with}
 use Rattle.ct_law.proofs.Schedules.{replayed}
-use Rattle.ct_law.proofs.Comings.{sent_if, after_arrived}
+use Rattle.ct_law.proofs.Nodes.{sent_if, after_arrived}
 
 -- Messages
 
@@ -247,7 +247,7 @@ goes_told e s t k no_stop h = goes_sent e s t (k ∷ []) (λ m i is. ⊎_elim
     (λ (z : ⊥). absurd z) i) h
 
 goes_answered : (e : Event) (k : Kind2) (n : ℕ) (s t : State) → is_stop k ≡ false → Goes e s t → Goes e s (answered k n t)
-goes_answered e k n s t no_stop h = go (came_at_b (arrival_of n t))
+goes_answered e k n s t no_stop h = go (came_remote (arrival_of n t))
   where
     go : (b : Bool) → Goes e s (to_b_if b (message k n) t)
     go true = goes_told e s t (message k n) no_stop h
@@ -605,7 +605,7 @@ steady_came o s journal n node w h = subst (λ (t : State). Steady o t (journal 
     arrival : Arrival
     arrival = record { node = node; work = w }
 
-    state : (room : Room) × (after s l ≡ came_with s arrival room (sent_if node n w s.to_a))
+    state : (room : Room) × (after s l ≡ came_with s arrival room (sent_if (is_remote node) n w s.to_a))
     state = after_arrived n node w s
 
 -- a command enters

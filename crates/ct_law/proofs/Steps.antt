@@ -14,12 +14,11 @@ use Rattle.ct_book.specs.Journals.{KeptWork, numbered, arrived}
 use Rattle.ct_exec.specs.Controls.{ControlState}
 use Rattle.ct_machine.specs.declared.act.Opening.{Opening}
 use Rattle.ct_machine.specs.States.{Task, Message, Arrival, State, arrival_of, queued}
-use Rattle.ct_machine.specs.Events.Sends.{message, to_b_if, came_at_b, answered}
+use Rattle.ct_machine.specs.Events.Sends.{message, to_b_if, came_remote, answered}
 use Rattle.ct_machine.specs.Events.Arrivals.{new_task}
 use Rattle.ct_machine.specs.Serial.{serial_disk}
 use Rattle.ct_machine.specs.Laws.Standings.{standings_of}
 use Rattle.ct_machine.specs.Laws.Legal.{refusal_behind}
-use Rattle.ct_machine.specs.Runs.{replay}
 use Rattle.ct_machine.specs.Laws.Journals.{has, is_entry, is_enter, IsCommandOf}
 use Rattle.ct_machine.specs.Laws.Legal.{IsRestricted}
 use Rattle.ct_machine.specs.Laws.Cells.{beside}
@@ -60,7 +59,7 @@ tells_b P o s journal m no_stop h = record {
 
 -- what came at B is answered there
 pub answers : (P : ℕ → ℕ → Type 0) (o : Opening) (s : State) (journal : List Logged) (k : Kind2) (n : ℕ) → is_stop k ≡ false → Inv P o s journal → Inv P o (answered k n s) journal
-answers P o s journal k n no_stop h = go (came_at_b (arrival_of n s))
+answers P o s journal k n no_stop h = go (came_remote (arrival_of n s))
   where
     go : (t : Bool) → Inv P o (to_b_if t (message k n) s) journal
     go true = tells_b P o s journal (message k n) no_stop h

@@ -17,7 +17,7 @@ use Rattle.ct_exec.specs.Controls.{ControlState}
 use Rattle.ct_exec.specs.Executions.{need_in}
 use Rattle.ct_machine.specs.declared.act.Opening.{Opening}
 use Rattle.ct_machine.specs.States.{Task, Stage, Waiting, Here, Granted, There, Over, Open, Arrival, State, arrival_of, without_task, with_task, at_stage, queued}
-use Rattle.ct_machine.specs.Events.Sends.{answered, came_at_b, message, to_b_if}
+use Rattle.ct_machine.specs.Events.Sends.{answered, came_remote, message, to_b_if}
 use Rattle.ct_machine.specs.Events.Arrivals.{new_task}
 use Rattle.ct_machine.specs.Serial.{serial_disk}
 use Rattle.ct_machine.specs.Laws.Standings.{standings_of}
@@ -81,14 +81,14 @@ wrote P o s now journal l h e inv worked untimed = record {
 
 -- what came at B is answered there, and the task set stays
 pub answered_tasks : (k : Kind2) (n : ℕ) (s : State) → (answered k n s).tasks ≡ s.tasks
-answered_tasks k n s = go (came_at_b (arrival_of n s))
+answered_tasks k n s = go (came_remote (arrival_of n s))
   where
     go : (t : Bool) → (to_b_if t (message k n) s).tasks ≡ s.tasks
     go true = refl
     go false = refl
 
 pub answered_still : (k : Kind2) (n : ℕ) (s : State) → s.functions ≡ [] → (answered k n s).functions ≡ [] × ((answered k n s).control ≡ s.control)
-answered_still k n s closed = go (came_at_b (arrival_of n s))
+answered_still k n s closed = go (came_remote (arrival_of n s))
   where
     go : (t : Bool) → (to_b_if t (message k n) s).functions ≡ [] × ((to_b_if t (message k n) s).control ≡ s.control)
     go true = (closed, refl)

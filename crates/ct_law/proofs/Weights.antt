@@ -16,7 +16,7 @@ use Rattle.ct_plan.specs.Cells.{Cells}
 use Rattle.ct_exec.specs.Controls.{tells_aborts}
 use Rattle.ct_exec.specs.Executions.{Execution, execute, plan_in}
 use Rattle.ct_machine.specs.States.{Stage, Waiting, Here, Granted, There, Over, Task, Open, Message, Arrival, State, disk_of, arrival_of, task_of, function_of, is_waiting, is_here, is_moving, is_remote, without_task, with_task, at_stage, waits, queued}
-use Rattle.ct_machine.specs.Events.Sends.{message, stop, to_b_if, came_at_b, answered}
+use Rattle.ct_machine.specs.Events.Sends.{message, stop, to_b_if, came_remote, answered}
 use Rattle.ct_machine.specs.Events.Arrivals.{new_task, entered}
 use Rattle.ct_machine.specs.Events.Moves.{staged, cells_after, further, moved_from}
 use Rattle.ct_machine.specs.Events.Ends.{leaves, over_at_b, stops_with, executed_at_once, ended_at, noted, cut_at}
@@ -184,7 +184,7 @@ one_stop stopped n = go (list_any (λ number. nat_eq number n) stopped)
     go false = omega arith
 
 pub left_answered : (n : ℕ) (s : State) (k : Kind2) (number : ℕ) → left n (answered k number s) ≤ left n s + 1
-left_answered n s k number = go (came_at_b (arrival_of number s))
+left_answered n s k number = go (came_remote (arrival_of number s))
   where
     go : (t : Bool) → left n (to_b_if t (message k number) s) ≤ left n s + 1
     go true = let a = length-append s.to_b (message k number ∷ []) in omega (arith, a)

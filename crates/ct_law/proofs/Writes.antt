@@ -25,7 +25,7 @@ use Rattle.ct_machine.specs.Acts.Moves.{moving_on, failing_if, moved_to, moving_
 use Rattle.ct_machine.specs.Acts.Begins.{is_granted}
 use Rattle.ct_machine.specs.Acts.Begins.{beginning_at, beginning}
 use Rattle.ct_machine.specs.Acts.Answers.{Done}
-use Rattle.ct_machine.specs.Acts.Arrivals.{next_number, has_room_for, arriving_at, arriving}
+use Rattle.ct_machine.specs.Acts.Arrivals.{next_number, has_room_for, arriving_at, arriving, arriving_here}
 use Rattle.ct_machine.specs.Acts.Steps.{blocked_by, beginning_unless, stepping_at, is_sent, stepping}
 use Rattle.ct_machine.specs.Acts.Messages.{delivering_first}
 use Rattle.ct_machine.specs.Acts.Messages.{messages_to, delivering}
@@ -34,6 +34,7 @@ use Rattle.ct_machine.specs.Acts.{doing, act_of}
 use Rattle.ct_machine.specs.Runs.{replay, IsAllowed}
 use Rattle.ct_machine.specs.Laws.Live.{is_void, ActsWrite}
 use Rattle.ct_law.proofs.Blocks.{none_made}
+use Rattle.ct_law.proofs.Nodes.{arriving_by}
 
 -- something was written
 abbrev Writes : Turn → Type 0
@@ -134,13 +135,12 @@ deliver_tells node s = go (messages_to node s)
 arrive_tells : (node : Node) (w : KeptWork) (s : State) → Tells (arriving node w s)
 arrive_tells node w s = go (has_room_for w s)
   where
-    came : (at : Node) (w : KeptWork) → Writes (arriving_at at w (next_number s) s).turn
-    came A (work.Cmd c) e = cc
-    came A (work.Ask ask) e = cc
-    came B w e = cc
+    taken : (w : KeptWork) → Writes (arriving_here node w (next_number s) s).turn
+    taken (work.Cmd c) e = cc
+    taken (work.Ask ask) e = cc
 
     go : (t : Bool) → Tells (cond {A = Done} t (arriving_at node w (next_number s) s) (record { turn = nothing s; answer = answer.NoRoom w }))
-    go true h = came node w
+    go true h = arriving_by Writes node w (next_number s) s (λ there e. cc) (λ here. taken w)
     go false h = absurd (cc)
 
 act_tells : (o : Opening) (s : State) (a : Act) (fault : Option ℕ) → IsAllowed o a → Tells (doing s a fault)

@@ -16,7 +16,7 @@ use Rattle.ct_book.specs.declared.event.Logged.{Logged}
 use Rattle.ct_book.specs.Journals.{KeptWork, works_in}
 use Rattle.ct_machine.specs.declared.act.Opening.{Opening}
 use Rattle.ct_machine.specs.States.{Stage, Waiting, Here, Granted, There, Over, Task, Open, Message, Arrival, State, opened, arrival_of, task_of, function_of}
-use Rattle.ct_machine.specs.Events.Sends.{message, came_at_b, to_b_if, answered}
+use Rattle.ct_machine.specs.Events.Sends.{message, came_remote, to_b_if, answered}
 use Rattle.ct_machine.specs.Events.Arrivals.{pieces_of, with_room, sent_from, after_came, entered, after_enter}
 use Rattle.ct_machine.specs.Events.Moves.{staged, moved_at, after_moved}
 use Rattle.ct_machine.specs.Events.Ends.{leaves, ended_at, after_ended, cut_at, after_cut}
@@ -38,7 +38,7 @@ told true m s = (refl, refl)
 told false m s = (refl, refl)
 
 answers : (k : Kind2) (number : ℕ) (s : State) → Stays s (answered k number s)
-answers k number s = told (came_at_b (arrival_of number s)) (message k number) s
+answers k number s = told (came_remote (arrival_of number s)) (message k number) s
 
 sent : (node : Node) (number : ℕ) (w : KeptWork) (s : State) → (sent_from node number w s).room ≡ s.room
 sent A number w s = refl
