@@ -39,10 +39,10 @@ use Rattle.ct_machine.specs.Acts.{doing, act_of}
 use Rattle.ct_machine.specs.Runs.{replay, IsRun}
 use Rattle.ct_machine.specs.Laws.Works.{brought, room_without, Brings}
 use Rattle.ct_plan.proofs.Performing.{size_after_all}
-use Rattle.ct_law.proofs.Nodes.{arriving_by, came_in}
-use Rattle.ct_law.proofs.Commands
+use Rattle.ct_law.proofs.Events.Nodes.{arriving_by, came_in}
+use Rattle.ct_law.proofs.Rows.Commands
 use Rattle.ct_law.proofs.Runs.{is_free, Turning, asks, closes_all, comes_to_b, steps, replay-act}
-use Rattle.ct_law.proofs.Comings.{every_run}
+use Rattle.ct_law.proofs.Walks.Comings.{every_run}
 
 -- no work came, and the blocks are as many
 pub record Still (before after : State) : Type 0 where

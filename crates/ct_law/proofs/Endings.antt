@@ -23,8 +23,8 @@ use Rattle.ct_machine.specs.Laws.Journals.{made_by, work_in, IsCommandOf, ended_
 use Rattle.ct_machine.specs.Laws.Cells.{Beside, progress_made, kept_if, moved_beside, beside_after, beside_behind}
 use Rattle.ct_machine.specs.Laws.Cells.{beside, RepliesByCells}
 use Rattle.ct_machine.specs.Laws.Endings.{is_compare, IsGoodOrDiffers, EndsGoodOrDiffersAt}
-use Rattle.ct_law.proofs.Growing.{works_in-more, work_list, numbered_front}
-use Rattle.ct_law.proofs.Blocks.{perform_size}
+use Rattle.ct_law.proofs.Journals.Growing.{works_in-more, work_list, numbered_front}
+use Rattle.ct_law.proofs.Cells.Blocks.{perform_size}
 
 -- a difference is found by an operation that compares
 compares : (out : List ℕ) (op : BlockOp) (cells : Cells) (offset : ℕ) →

@@ -22,16 +22,16 @@ use Rattle.ct_machine.specs.Laws.Cells.{RepliesByCells, MakesPlanAt, Beside, bes
 use Rattle.ct_machine.specs.Laws.Kinds.{IsOfItsKind}
 use Rattle.ct_machine.specs.Laws.Standings.{standings_of}
 use Rattle.ct_machine.specs.Laws.Legal.{IsRestricted, IsLegalAt, IsSoundAt}
-use Rattle.ct_law.proofs.Tasks.{Has}
-use Rattle.ct_law.proofs.Laws.{Laws}
-use Rattle.ct_law.proofs.Held.{Rules, Holds}
-use Rattle.ct_law.proofs.Ready.{IsReady}
-use Rattle.ct_law.proofs.Ends.{ready_must}
-use Rattle.ct_law.proofs.Journal.{each_front, each_last}
-use Rattle.ct_law.proofs.Growing.{numbered-map, serial-more, beside-more}
-use Rattle.ct_law.proofs.Books.{Books, is_over, arrival_for}
-use Rattle.ct_law.proofs.Orders.{Orders}
-use Rattle.ct_law.proofs.Opens.{Opens}
+use Rattle.ct_law.proofs.Lists.Tasks.{Has}
+use Rattle.ct_law.proofs.Rows.Laws.{Laws}
+use Rattle.ct_law.proofs.Cells.Held.{Rules, Holds}
+use Rattle.ct_law.proofs.Rows.Ready.{IsReady}
+use Rattle.ct_law.proofs.Cells.Ends.{ready_must}
+use Rattle.ct_law.proofs.Journals.Journal.{each_front, each_last}
+use Rattle.ct_law.proofs.Journals.Growing.{numbered-map, serial-more, beside-more}
+use Rattle.ct_law.proofs.Frame.Books.{Books, is_over, arrival_for}
+use Rattle.ct_law.proofs.Frame.Orders.{Orders}
+use Rattle.ct_law.proofs.Frame.Opens.{Opens}
 
 -- what a journal owes at an event
 pub record LawfulAt (o : Opening) (before : List Logged) (l : Logged) : Type 0 where

@@ -14,18 +14,18 @@ use Rattle.ct_machine.specs.Laws.Once.{IsQuiet}
 use Rattle.ct_machine.specs.Laws.Standings.{standings_of}
 use Rattle.ct_machine.specs.Laws.Legal.{IsLegalAt}
 use Rattle.ct_machine.specs.Laws.{IsLawful}
-use Rattle.ct_law.proofs.Tasks.{Has}
-use Rattle.ct_law.proofs.Journal.{each_more}
-use Rattle.ct_law.proofs.Held.{idle_same}
-use Rattle.ct_law.proofs.Commands.{laws}
+use Rattle.ct_law.proofs.Lists.Tasks.{Has}
+use Rattle.ct_law.proofs.Journals.Journal.{each_more}
+use Rattle.ct_law.proofs.Cells.Held.{idle_same}
+use Rattle.ct_law.proofs.Rows.Commands.{laws}
 use Rattle.ct_law.proofs.Inv.{LawfulAt}
-use Rattle.ct_law.proofs.Books.{IsAsk}
-use Rattle.ct_law.proofs.Walk.{Now, NoneDue}
-use Rattle.ct_law.proofs.Comings.{every_run}
-use Rattle.ct_law.proofs.Busy.{next_is_busy, idle_is_quiet}
+use Rattle.ct_law.proofs.Frame.Books.{IsAsk}
+use Rattle.ct_law.proofs.Walks.Walk.{Now, NoneDue}
+use Rattle.ct_law.proofs.Walks.Comings.{every_run}
+use Rattle.ct_law.proofs.Acts.Busy.{next_is_busy, idle_is_quiet}
 use Rattle.ct_law.proofs.Endings.{ends_good}
-use Rattle.ct_law.proofs.Heard.{HeardAt, heard_runs}
-use Rattle.ct_law.proofs.Complete.{IsOpenNo, IsGiven, given_run}
+use Rattle.ct_law.proofs.Functions.Heard.{HeardAt, heard_runs}
+use Rattle.ct_law.proofs.Acts.Complete.{IsOpenNo, IsGiven, given_run}
 
 each_map : (P R : List Logged → Logged → Type 0) → ((before : List Logged) (l : Logged) → P before l → R before l) → (before journal : List Logged) → EachBehind P before journal → EachBehind R before journal
 each_map P R f before [] h = tt

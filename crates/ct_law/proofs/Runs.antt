@@ -47,8 +47,8 @@ use Rattle.ct_machine.specs.Acts.Messages.{messages_to, delivering}
 use Rattle.ct_machine.specs.Acts.Next.{next_step, stepping_next, doing_next}
 use Rattle.ct_machine.specs.Acts.{doing, act_of}
 use Rattle.ct_machine.specs.Runs.{replay, IsAllowed, Move, written, journal_of, IsRun}
-use Rattle.ct_law.proofs.Growing.{replay-append}
-use Rattle.ct_law.proofs.Nodes.{arriving_by}
+use Rattle.ct_law.proofs.Journals.Growing.{replay-append}
+use Rattle.ct_law.proofs.Events.Nodes.{arriving_by}
 
 -- an event that no arrival or message brings
 abbrev pub is_free : Event → Bool
