@@ -1,5 +1,6 @@
 -- A command that made block operations ends GOOD, or one of them compares and found a difference.
-use Rattle.std.proofs.Common.{◌≡◌, ℕ, inl, inr, Bool, true, false, ◌||◌, List, [], ◌∷◌, ◌++◌, Option, Some, None, length, take, drop, refl, sym, ap, ◌∙◌}
+use Rattle.std.proofs.Common.{◌≡◌, ℕ, inl, inr, Bool, true, false, ◌||◌, List, [], ◌∷◌, ◌++◌, Option, Some, None}
+use Rattle.std.proofs.Common.{length, take, drop, refl, sym, ap, ◌∙◌}
 use Rattle.std.proofs.Common.{subst, eqb-true, nat_eq, append_assoc, append-nil, take-append-drop}
 use Rattle.std.specs.List.{list_any}
 use Rattle.std.proofs.lemmas.Bool.{or_left, or_right}
@@ -44,8 +45,10 @@ one_compares out (op ∷ ops) cells offset e =
     others : Progress
     others = performed out ops (after out op cells)
 
-    go : (found : Option ℕ) → difference_at out op cells ≡ found → (unless found cells others).difference ≡ Some offset →
-        (others.difference ≡ Some offset → list_any is_compare ops ≡ true) → (is_compare op || list_any is_compare ops) ≡ true
+    go : (found : Option ℕ) → difference_at out op cells ≡ found →
+        (unless found cells others).difference ≡ Some offset →
+        (others.difference ≡ Some offset → list_any is_compare ops ≡ true) →
+        (is_compare op || list_any is_compare ops) ≡ true
     go None is differs later = or_right (is_compare op) _ (later differs)
     go (Some at) is differs later = or_left _ _ (compares out op cells at is)
 
@@ -90,12 +93,14 @@ found_more o n journal e b h = go e.event
         Found o n (journal ++ e ∷ [])
         (kept_if t (progress_made c made count (record { blocks = b.blocks; got = b.got }) (length b.blocks)) b)
     by number made count c known false is = record {
-      size = perform_size c.out (take count (drop made (plan_in (length b.blocks) c))) (record { blocks = b.blocks; got = b.got })
+      size = perform_size c.out (take count (drop made (plan_in (length b.blocks) c)))
+          (record { blocks = b.blocks; got = b.got })
           ∙ h.size;
       compares = same.compares;
     }
     by number made count c known true is = record {
-      size = perform_size c.out (take count (drop made (plan_in (length b.blocks) c))) (record { blocks = b.blocks; got = b.got })
+      size = perform_size c.out (take count (drop made (plan_in (length b.blocks) c)))
+          (record { blocks = b.blocks; got = b.got })
           ∙ h.size;
       compares = λ offset differs. (
         c,
@@ -103,7 +108,8 @@ found_more o n journal e b h = go e.event
         ap (λ k. list_any is_compare (plan_in k c)) (sym h.size)
             ∙ some_dropped made (plan_in (length b.blocks) c)
             (some_taken count (drop made (plan_in (length b.blocks) c))
-            (one_compares c.out (take count (drop made (plan_in (length b.blocks) c))) (record { blocks = b.blocks; got = b.got }) offset differs)),
+            (one_compares c.out (take count (drop made (plan_in (length b.blocks) c)))
+            (record { blocks = b.blocks; got = b.got }) offset differs)),
       );
     }
 
@@ -136,14 +142,16 @@ found_behind o n before (e ∷ journal) b h =
 found_in : (o : Opening) (n : ℕ) (journal : List Logged) → Found o n journal (beside o n journal)
 unfolding beside
 found_in o n journal =
-    found_behind o n [] journal _ (record { size = length-replicate o.blocks (replicate 512 0); compares = λ offset e. absurd (cc) })
+    found_behind o n [] journal _
+    (record { size = length-replicate o.blocks (replicate 512 0); compares = λ offset e. absurd (cc) })
 
 pub ends_good : (o : Opening) (before : List Logged) (happened : Event) (replied : Option Reply) →
     AtEnd (RepliesByCells o before replied) happened → AtEnd (EndsGoodOrDiffersAt o before replied) happened
 ends_good o before happened replied h = at (ended_by happened) h
   where
     go : (n : ℕ) (c : Command) → IsCommandOf before n c → (found : Option ℕ) → (beside o n before).difference ≡ found →
-        replied ≡ Some (reply_moved (serial_disk o before).control (beside o n before).difference (beside o n before).got) →
+        replied ≡ Some (reply_moved (serial_disk o before).control (beside o n before).difference
+        (beside o n before).got) →
         IsGoodOrDiffers (serial_disk o before).control (plan_in o.blocks c) replied
     go n c known None is e =
         inl (

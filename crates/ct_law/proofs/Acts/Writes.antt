@@ -41,12 +41,16 @@ abbrev Writes : Turn → Type 0
 Writes t = t.journal ≢ []
 
 -- of a plan that isn't done there are operations left
-some_left : (count done : ℕ) (plan : List BlockOp) → 1 ≤ count → nat_le (length plan) done ≡ false → take count (drop done plan) ≢ []
+some_left : (count done : ℕ) (plan : List BlockOp) → 1 ≤ count → nat_le (length plan) done ≡ false →
+    take count (drop done plan) ≢ []
 some_left count done plan positive left e = go count (drop done plan) refl positive e
   where
     go : (k : ℕ) (rest : List BlockOp) → drop done plan ≡ rest → 1 ≤ k → take k rest ≢ []
     go zero rest r p e = omega (arith, p)
-    go (suc k) [] r p e = both_ways (nat_le (length plan) done) left (le-leb (length plan) done (let size = length-drop done plan in let none = ap length r in omega (arith, size, none)))
+    go (suc k) [] r p e =
+        both_ways (nat_le (length plan) done) left
+        (le-leb (length plan) done
+        (let size = length-drop done plan in let none = ap length r in omega (arith, size, none)))
     go (suc k) (op ∷ rest) r p e = cc
 
 -- no operation was tried, though there were some: the medium fails the first
@@ -93,7 +97,8 @@ moving_writes x count fault done got s positive = go progress.made refl
     go zero e = ends progress.difference (nat_le (length plan) (done + progress.made)) refl e
     go (suc m) e = λ k. cc
 
-begin_writes : (refused : Option Reply) (plan : List BlockOp) (x : Task) (count : ℕ) (fault : Option ℕ) (s : State) → Writes (beginning refused plan x count fault s)
+begin_writes : (refused : Option Reply) (plan : List BlockOp) (x : Task) (count : ℕ) (fault : Option ℕ) (s : State) →
+    Writes (beginning refused plan x count fault s)
 begin_writes (Some reply) plan x count fault s e = cc
 begin_writes None [] x count fault s e = cc
 begin_writes None (op ∷ ops) x count fault s e = go (is_granted s.ha x.node) e
@@ -106,17 +111,21 @@ begin_writes None (op ∷ ops) x count fault s e = go (is_granted s.ha x.node) e
 abbrev Tells : Done → Type 0
 Tells d = is_void d.answer ≡ false → Writes d.turn
 
-step_tells : (found : Option Task) (number count : ℕ) (fault : Option ℕ) (s : State) → 1 ≤ count → Tells (stepping found number count fault s)
+step_tells : (found : Option Task) (number count : ℕ) (fault : Option ℕ) (s : State) → 1 ≤ count →
+    Tells (stepping found number count fault s)
 step_tells None number count fault s positive = go (list_any (is_sent number) s.to_a)
   where
-    go : (t : Bool) → Tells (cond {A = Done} t (record { turn = nothing s; answer = answer.Away number }) (record { turn = nothing s; answer = answer.Gone }))
+    go : (t : Bool) → Tells (cond {A = Done} t (record { turn = nothing s; answer = answer.Away number })
+        (record { turn = nothing s; answer = answer.Gone }))
     go true h = absurd (cc)
     go false h = absurd (cc)
 step_tells (Some x) number count fault s positive = at x.stage
   where
     begins : (blocked : Option ℕ) → Tells (beginning_unless blocked x count fault s)
     begins (Some by) h = absurd (cc)
-    begins None h = begin_writes (refusal_of s.control (length s.blocks) x.command) (plan_in (length s.blocks) x.command) x count fault s
+    begins None h =
+        begin_writes (refusal_of s.control (length s.blocks) x.command)
+        (plan_in (length s.blocks) x.command) x count fault s
 
     at : (stage : Stage) → Tells (stepping_at stage x count fault s)
     at Waiting h = begins (blocked_by s.functions s x) h
@@ -139,7 +148,8 @@ arrive_tells node w s = go (has_room_for w s)
     taken (work.Cmd c) e = cc
     taken (work.Ask ask) e = cc
 
-    go : (t : Bool) → Tells (cond {A = Done} t (arriving_at node w (next_number s) s) (record { turn = nothing s; answer = answer.NoRoom w }))
+    go : (t : Bool) → Tells (cond {A = Done} t (arriving_at node w (next_number s) s)
+        (record { turn = nothing s; answer = answer.NoRoom w }))
     go true h = arriving_by Writes node w (next_number s) s (λ there e. cc) (λ here. taken w)
     go false h = absurd (cc)
 

@@ -36,18 +36,22 @@ pub record Agree (P : ℕ → Type 0) (xs ys : List (List ℕ)) : Type 0 where
   pub size : length xs ≡ length ys
   pub at : (lba : ℕ) → P lba → cell xs lba ≡ cell ys lba
 
-cell_set_same : (xs ys : List (List ℕ)) (i : ℕ) (b : List ℕ) → length xs ≡ length ys → cell xs i ≡ cell ys i → cell (slice_set xs i b) i ≡ cell (slice_set ys i b) i
+cell_set_same : (xs ys : List (List ℕ)) (i : ℕ) (b : List ℕ) → length xs ≡ length ys → cell xs i ≡ cell ys i →
+    cell (slice_set xs i b) i ≡ cell (slice_set ys i b) i
 cell_set_same xs ys i b size e =
     ⊎_elim
     (λ (w : i < length xs). get_or-set_same xs i b [] w ∙ sym (get_or-set_same ys i b [] (omega arith)))
-    (λ (w : length xs ≤ i). ap (λ zs. cell zs i) (set_past xs i b w) ∙ e ∙ sym (ap (λ zs. cell zs i) (set_past ys i b (omega arith))))
+    (λ (w : length xs ≤ i). ap (λ zs. cell zs i) (set_past xs i b w) ∙ e ∙ sym
+    (ap (λ zs. cell zs i) (set_past ys i b (omega arith))))
     (cases_lt i (length xs))
 
-pub agree_set : (P : ℕ → Type 0) (xs ys : List (List ℕ)) (i : ℕ) (b : List ℕ) → Agree P xs ys → Agree P (slice_set xs i b) (slice_set ys i b)
+pub agree_set : (P : ℕ → Type 0) (xs ys : List (List ℕ)) (i : ℕ) (b : List ℕ) → Agree P xs ys →
+    Agree P (slice_set xs i b) (slice_set ys i b)
 agree_set P xs ys i b h = record {
   size = length-set xs i b ∙ h.size ∙ sym (length-set ys i b);
   at = λ l p. ⊎_elim
-      (λ (e : l ≡ i). subst (λ k. cell (slice_set xs k b) l ≡ cell (slice_set ys k b) l) e (cell_set_same xs ys l b h.size (h.at l p)))
+      (λ (e : l ≡ i). subst (λ k. cell (slice_set xs k b) l ≡ cell (slice_set ys k b) l) e
+      (cell_set_same xs ys l b h.size (h.at l p)))
       (λ (ne : l ≡ i → ⊥). get_or-set_other xs i l b [] ne ∙ h.at l p ∙ sym (get_or-set_other ys i l b [] ne))
       (cases_eq l i);
 }
@@ -90,17 +94,29 @@ agree_difference P out (operations.Compare l place) x y p h = ap (difference_in 
 head_used : (op : BlockOp) (ops : List BlockOp) → uses (lba_of op) (op ∷ ops) ≡ true
 head_used op ops = or_left _ _ (eq-eqb (lba_of op) (lba_of op) refl)
 
-unless_like : (P : ℕ → Type 0) (d : Option ℕ) (x y : Cells) (p q : Progress) → x.got ≡ y.got → Agree P x.blocks y.blocks → Like P p q → Like P (unless d x p) (unless d y q)
-unless_like P None x y p q e h l = record { made = ap suc l.made; got = l.got; difference = l.difference; blocks = l.blocks }
+unless_like : (P : ℕ → Type 0) (d : Option ℕ) (x y : Cells) (p q : Progress) → x.got ≡ y.got →
+    Agree P x.blocks y.blocks → Like P p q → Like P (unless d x p) (unless d y q)
+unless_like P None x y p q e h l = record {
+  made = ap suc l.made;
+  got = l.got;
+  difference = l.difference;
+  blocks = l.blocks;
+}
 unless_like P (Some k) x y p q e h l = record { made = refl; got = e; difference = refl; blocks = h }
 
-pub perform_like : (P : ℕ → Type 0) (out : List ℕ) (ops : List BlockOp) (x y : Cells) → ((l : ℕ) → uses l ops ≡ true → P l) → x.got ≡ y.got → Agree P x.blocks y.blocks → Like P (performed out ops x) (performed out ops y)
+pub perform_like : (P : ℕ → Type 0) (out : List ℕ) (ops : List BlockOp) (x y : Cells) →
+    ((l : ℕ) → uses l ops ≡ true → P l) → x.got ≡ y.got → Agree P x.blocks y.blocks →
+    Like P (performed out ops x) (performed out ops y)
 perform_like P out [] x y within e h = record { made = refl; got = e; difference = refl; blocks = h }
 perform_like P out (op ∷ ops) x y within e h =
     let here : P (lba_of op) = within (lba_of op) (head_used op ops) in
-    let rest = perform_like P out ops (after out op x) (after out op y) (λ l u. within l (or_right _ _ u)) (agree_got P out op x y here e h) (agree_after P out op x y h) in
-    subst (λ d. Like P (performed out (op ∷ ops) x) (unless d y (performed out ops (after out op y)))) (agree_difference P out op x y here h)
-    (unless_like P (difference_at out op x) x y (performed out ops (after out op x)) (performed out ops (after out op y)) e h rest)
+    let rest =
+    perform_like P out ops (after out op x) (after out op y) (λ l u. within l (or_right _ _ u))
+    (agree_got P out op x y here e h) (agree_after P out op x y h) in
+    subst (λ d. Like P (performed out (op ∷ ops) x) (unless d y (performed out ops (after out op y))))
+    (agree_difference P out op x y here h)
+    (unless_like P (difference_at out op x) x y (performed out ops (after out op x))
+    (performed out ops (after out op y)) e h rest)
 
 -- where none is made there is none
 pub none_made : (out : List ℕ) (ops : List BlockOp) (cells : Cells) → (performed out ops cells).made ≡ 0 → ops ≡ []
@@ -112,14 +128,16 @@ none_made out (op ∷ ops) cells e = absurd (go (difference_at out op cells) e)
     go (Some k) h = cc
 
 -- those that were made are made again
-pub performed_made : (out : List ℕ) (ops : List BlockOp) (cells : Cells) → performed out (take (performed out ops cells).made ops) cells ≡ performed out ops cells
+pub performed_made : (out : List ℕ) (ops : List BlockOp) (cells : Cells) →
+    performed out (take (performed out ops cells).made ops) cells ≡ performed out ops cells
 performed_made out [] cells = refl
 performed_made out (op ∷ ops) cells = go (difference_at out op cells) refl (performed_made out ops (after out op cells))
   where
     p : Progress
     p = performed out ops (after out op cells)
 
-    go : (d : Option ℕ) → difference_at out op cells ≡ d → performed out (take p.made ops) (after out op cells) ≡ p → performed out (take (unless d cells p).made (op ∷ ops)) cells ≡ unless d cells p
+    go : (d : Option ℕ) → difference_at out op cells ≡ d → performed out (take p.made ops) (after out op cells) ≡ p →
+        performed out (take (unless d cells p).made (op ∷ ops)) cells ≡ unless d cells p
     go None e h = ap (λ d. unless d cells (performed out (take p.made ops) (after out op cells))) e ∙ ap one_more h
     go (Some k) e h = ap (λ d. unless d cells (performed out [] (after out op cells))) e
 
@@ -135,14 +153,18 @@ after_elsewhere out (operations.Zero k) cells l ops e =
     get_or-set_other cells.blocks k l zero_block [] (λ h. both_ways (nat_eq l k) (or_parts _ _ e).0 (eq-eqb l k h))
 after_elsewhere out (operations.Compare k place) cells l ops e = refl
 
-pub perform_elsewhere : (out : List ℕ) (ops : List BlockOp) (cells : Cells) (l : ℕ) → puts l ops ≡ false → cell (performed out ops cells).cells.blocks l ≡ cell cells.blocks l
+pub perform_elsewhere : (out : List ℕ) (ops : List BlockOp) (cells : Cells) (l : ℕ) → puts l ops ≡ false →
+    cell (performed out ops cells).cells.blocks l ≡ cell cells.blocks l
 perform_elsewhere out [] cells l e = refl
-perform_elsewhere out (op ∷ ops) cells l e = go (difference_at out op cells) (perform_elsewhere out ops (after out op cells) l (or_parts _ _ e).1 ∙ after_elsewhere out op cells l ops e)
+perform_elsewhere out (op ∷ ops) cells l e =
+    go (difference_at out op cells)
+    (perform_elsewhere out ops (after out op cells) l (or_parts _ _ e).1 ∙ after_elsewhere out op cells l ops e)
   where
     p : Progress
     p = performed out ops (after out op cells)
 
-    go : (d : Option ℕ) → cell p.cells.blocks l ≡ cell cells.blocks l → cell (unless d cells p).cells.blocks l ≡ cell cells.blocks l
+    go : (d : Option ℕ) → cell p.cells.blocks l ≡ cell cells.blocks l →
+        cell (unless d cells p).cells.blocks l ≡ cell cells.blocks l
     go None h = h
     go (Some k) h = refl
 
@@ -237,7 +259,8 @@ abbrev pub only_puts : List BlockOp → List BlockOp
 only_puts [] = []
 only_puts (op ∷ ops) = cond (is_put op) (op ∷ only_puts ops) (only_puts ops)
 
-first_puts_skip : (k : ℕ) (op : BlockOp) (ops : List BlockOp) → is_put op ≡ false → first_puts k (op ∷ ops) ≡ first_puts k ops
+first_puts_skip : (k : ℕ) (op : BlockOp) (ops : List BlockOp) → is_put op ≡ false →
+    first_puts k (op ∷ ops) ≡ first_puts k ops
 first_puts_skip zero op ops e = refl
 first_puts_skip (suc k) op ops e = ap (λ t. cond t (op ∷ first_puts k ops) (first_puts (suc k) ops)) e
 
@@ -246,8 +269,12 @@ pub first_puts_front : (ps qs : List BlockOp) → first_puts (puts_among ps) (ps
 first_puts_front [] qs = refl
 first_puts_front (op ∷ ps) qs = go (is_put op) refl (first_puts_front ps qs)
   where
-    go : (t : Bool) → is_put op ≡ t → first_puts (puts_among ps) (ps ++ qs) ≡ only_puts ps → first_puts (cond t (suc (puts_among ps)) (puts_among ps)) (op ∷ (ps ++ qs)) ≡ cond t (op ∷ only_puts ps) (only_puts ps)
-    go true e h = ap (λ u. cond u (op ∷ first_puts (puts_among ps) (ps ++ qs)) (first_puts (suc (puts_among ps)) (ps ++ qs))) e ∙ ap (λ l. op ∷ l) h
+    go : (t : Bool) → is_put op ≡ t → first_puts (puts_among ps) (ps ++ qs) ≡ only_puts ps →
+        first_puts (cond t (suc (puts_among ps)) (puts_among ps)) (op ∷ (ps ++ qs)) ≡ cond t (op ∷ only_puts ps)
+        (only_puts ps)
+    go true e h =
+        ap (λ u. cond u (op ∷ first_puts (puts_among ps) (ps ++ qs)) (first_puts (suc (puts_among ps)) (ps ++ qs))) e
+        ∙ ap (λ l. op ∷ l) h
     go false e h = first_puts_skip (puts_among ps) op (ps ++ qs) e ∙ h
 
 -- the puts alone leave the same blocks

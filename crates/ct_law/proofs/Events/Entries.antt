@@ -9,7 +9,8 @@ use Rattle.ct_book.specs.declared.event.Kind2.{Kind2}
 use Rattle.ct_book.specs.declared.event.Logged.{Logged}
 use Rattle.ct_exec.specs.Controls.{ControlState}
 use Rattle.ct_machine.specs.declared.act.Opening.{Opening}
-use Rattle.ct_machine.specs.States.{Task, Stage, Waiting, Here, Granted, There, Over, Open, Message, Arrival, State, without_task, with_task, at_stage}
+use Rattle.ct_machine.specs.States.{Task, Stage, Waiting, Here, Granted, There, Over, Open, Message, Arrival, State}
+use Rattle.ct_machine.specs.States.{without_task, with_task, at_stage}
 use Rattle.ct_machine.specs.Events.Sends.{message}
 use Rattle.ct_machine.specs.Serial.{disk_after, serial_disk}
 use Rattle.ct_machine.specs.Laws.Journals.{has, is_entry, is_enter}
@@ -30,8 +31,10 @@ use Rattle.ct_machine.specs.Laws.Legal.{IsTurnedFor}
 use Rattle.ct_law.proofs.Events.Steps.{rules_same, holds_same}
 
 -- a command is refused at its arrival
-pub turned_so : (P : ℕ → ℕ → Type 0) (o : Opening) (s : State) (journal : List Logged) (n : ℕ) (reply : Reply) → Inv P o s journal → Untouched n journal → (IsAsk n s.to_a → ⊥) → n ≤ length s.arrivals →
-    IsTurnedFor (standings_of o) o journal n (Some reply) → ((y : Task) → Has s.tasks y → y.no ≡ n → ⊥) → ((p : Open) → HasOpen s.functions p → n ≡ p.no → ⊥) → Inv P o s (journal ++ replied (event.Turned n) reply ∷ [])
+pub turned_so : (P : ℕ → ℕ → Type 0) (o : Opening) (s : State) (journal : List Logged) (n : ℕ) (reply : Reply) →
+    Inv P o s journal → Untouched n journal → (IsAsk n s.to_a → ⊥) → n ≤ length s.arrivals →
+    IsTurnedFor (standings_of o) o journal n (Some reply) → ((y : Task) → Has s.tasks y → y.no ≡ n → ⊥) →
+    ((p : Open) → HasOpen s.functions p → n ≡ p.no → ⊥) → Inv P o s (journal ++ replied (event.Turned n) reply ∷ [])
 turned_so P o s journal n reply h u new within cause other closed = record {
   frame = record {
     each = each_more (LawfulAt o) [] journal e h.frame.each (record {
@@ -48,9 +51,11 @@ turned_so P o s journal n reply h u new within cause other closed = record {
     works = h.frame.works ∙ sym (works_in-none journal e refl);
     size = h.frame.size;
     books = books_function journal s.arrivals s.tasks s.to_a e h.frame.books (λ m. refl) (λ y hy k. other y hy (sym k))
-        (λ m k i. ⊎_elim (λ (l : length s.arrivals < m). omega (arith, l, i, within)) (λ (a : IsAsk m s.to_a). new (subst (λ j. IsAsk j s.to_a) (sym i) a)) k);
+        (λ m k i. ⊎_elim (λ (l : length s.arrivals < m). omega (arith, l, i, within))
+        (λ (a : IsAsk m s.to_a). new (subst (λ j. IsAsk j s.to_a) (sym i) a)) k);
     orders = orders_event journal s.tasks e (λ m. refl) h.frame.orders;
-    opens = opens_event P journal s.arrivals s.tasks s.functions s.to_a s.to_b e (λ p hp. (ne_eqb n p.no (closed p hp), refl)) h.frame.opens;
+    opens = opens_event P journal s.arrivals s.tasks s.functions s.to_a s.to_b e
+        (λ p hp. (ne_eqb n p.no (closed p hp), refl)) h.frame.opens;
   };
   rules = rules_same o journal e s.control s.tasks (serial-same o journal e refl) h.rules;
   cells = cells_quiet o s s journal e h.cells refl refl refl (λ m k. sym (has_same (is_enter m) journal e refl) ∙ k);
@@ -62,7 +67,8 @@ turned_so P o s journal n reply h u new within cause other closed = record {
 
 -- a command that has its entry leaves
 
-pub entry_over : (P : ℕ → ℕ → Type 0) (o : Opening) (s : State) (journal : List Logged) → Frame P o s journal → (x : Task) → Has s.tasks x → has (is_entry x.no) journal ≡ true → is_over x.stage ≡ true
+pub entry_over : (P : ℕ → ℕ → Type 0) (o : Opening) (s : State) (journal : List Logged) → Frame P o s journal →
+    (x : Task) → Has s.tasks x → has (is_entry x.no) journal ≡ true → is_over x.stage ≡ true
 entry_over P o s journal h x hx e = sym (h.books.entry x hx) ∙ e
 
 pub over_inactive : (stage : Stage) → is_over stage ≡ true → is_active stage ≡ false
@@ -72,7 +78,8 @@ over_inactive Granted e = absurd (cc)
 over_inactive (There d g) e = absurd (cc)
 over_inactive Over e = refl
 
-pub gone_so : (P : ℕ → ℕ → Type 0) (o : Opening) (s : State) (journal : List Logged) (n : ℕ) → has (is_entry n) journal ≡ true → Inv P o s journal → Inv P o (record s { tasks = without_task n s.tasks }) journal
+pub gone_so : (P : ℕ → ℕ → Type 0) (o : Opening) (s : State) (journal : List Logged) (n : ℕ) →
+    has (is_entry n) journal ≡ true → Inv P o s journal → Inv P o (record s { tasks = without_task n s.tasks }) journal
 gone_so P o s journal n e h = record {
   frame = record {
     each = h.frame.each;
@@ -80,16 +87,25 @@ gone_so P o s journal n e h = record {
     size = h.frame.size;
     books = books_removes journal s.arrivals s.tasks s.to_a n h.frame.books e;
     orders = orders_removes journal s.tasks n h.frame.orders;
-    opens = opens_queue P journal s.arrivals s.tasks (without_task n s.tasks) s.functions s.to_a s.to_b (λ y k a. inl (record { task = y; has = (has_without n s.tasks y k).0; no = refl; command = refl; active = a; remote = λ r. r })) h.frame.opens;
+    opens = opens_queue P journal s.arrivals s.tasks (without_task n s.tasks) s.functions s.to_a s.to_b
+        (λ y k a. inl (record { task = y; has = (has_without n s.tasks y k).0; no = refl; command = refl; active = a; remote = λ r. r })) h.frame.opens;
   };
   rules = rules_removes o.blocks (serial_disk o journal) s.control s.tasks n h.rules;
-  cells = record { blocks = h.cells.blocks; gained = λ x k. h.cells.gained x (has_without n s.tasks x k).0; ungained = h.cells.ungained };
+  cells = record {
+    blocks = h.cells.blocks;
+    gained = λ x k. h.cells.gained x
+        (has_without n s.tasks x k).0;
+    ungained = h.cells.ungained;
+  };
   holds = λ r. removes o.blocks (serial_disk o journal) s.blocks s.tasks n (h.holds r)
-      (λ x hx k. over_inactive x.stage (entry_over P o s journal h.frame x hx (subst (λ m. has (is_entry m) journal ≡ true) (sym k) e)));
+      (λ x hx k. over_inactive x.stage
+      (entry_over P o s journal h.frame x hx (subst (λ m. has (is_entry m) journal ≡ true) (sym k) e)));
 }
 
 -- news to A that a command is over
-pub tells_a : (P : ℕ → ℕ → Type 0) (o : Opening) (s : State) (journal : List Logged) (m : Message) → is_arrival m.kind ≡ false → has (is_entry m.no) journal ≡ true → Inv P o s journal → Inv P o (record s { to_a = s.to_a ++ m ∷ [] }) journal
+pub tells_a : (P : ℕ → ℕ → Type 0) (o : Opening) (s : State) (journal : List Logged) (m : Message) →
+    is_arrival m.kind ≡ false → has (is_entry m.no) journal ≡ true → Inv P o s journal →
+    Inv P o (record s { to_a = s.to_a ++ m ∷ [] }) journal
 tells_a P o s journal m no_work over h = record {
   frame = record {
     each = h.frame.each;
@@ -98,7 +114,9 @@ tells_a P o s journal m no_work over h = record {
     books = books_tell journal s.arrivals s.tasks s.to_a m no_work h.frame.books;
     orders = h.frame.orders;
     opens = opens_a P journal s.arrivals s.tasks s.functions s.to_a (s.to_a ++ m ∷ []) s.to_b
-        (λ n k. ⊎_elim (h.frame.opens.gone n) (λ (w : (is_end m.kind ≡ true) × (m.no ≡ n)). subst (λ i. has (is_entry i) journal ≡ true) w.1 over) (sent_push is_end n s.to_a m k)) h.frame.opens;
+        (λ n k. ⊎_elim (h.frame.opens.gone n)
+        (λ (w : (is_end m.kind ≡ true) × (m.no ≡ n)). subst (λ i. has (is_entry i) journal ≡ true) w.1 over)
+        (sent_push is_end n s.to_a m k)) h.frame.opens;
   };
   rules = h.rules;
   cells = record { blocks = h.cells.blocks; gained = h.cells.gained; ungained = h.cells.ungained };
@@ -112,19 +130,26 @@ pub record Own (s : State) (x : Task) (e : Event) : Type 0 where
   pub old : (n : ℕ) → IsFresh n s.arrivals s.to_a → IsOf e n → ⊥
 
 -- a command takes another stage: what was active stays so
-pub opens_turns : (P : ℕ → ℕ → Type 0) (journal : List Logged) (works : List Arrival) (queue : List Task) (functions : List Open) (to_a to_b : List Message) (x : Task) (stage : Stage) → Has queue x →
+pub opens_turns : (P : ℕ → ℕ → Type 0) (journal : List Logged) (works : List Arrival) (queue : List Task)
+    (functions : List Open) (to_a to_b : List Message) (x : Task) (stage : Stage) → Has queue x →
     (is_active stage ≡ true → WasActive queue (at_stage stage x) ⊎ Begins journal functions to_b (at_stage stage x)) →
-    Opens P journal works queue functions to_a to_b → Opens P journal works (with_task (at_stage stage x) queue) functions to_a to_b
-opens_turns P journal works queue functions to_a to_b x stage hx active h = opens_queue P journal works queue (with_task (at_stage stage x) queue) functions to_a to_b from h
+    Opens P journal works queue functions to_a to_b →
+    Opens P journal works (with_task (at_stage stage x) queue) functions to_a to_b
+opens_turns P journal works queue functions to_a to_b x stage hx active h =
+    opens_queue P journal works queue (with_task (at_stage stage x) queue) functions to_a to_b from h
   where
-    from : (y : Task) → Has (with_task (at_stage stage x) queue) y → is_active y.stage ≡ true → WasActive queue y ⊎ Begins journal functions to_b y
+    from : (y : Task) → Has (with_task (at_stage stage x) queue) y → is_active y.stage ≡ true →
+        WasActive queue y ⊎ Begins journal functions to_b y
     from y m a = ⊎_elim
-        (λ (k : at_stage stage x ≡ y). subst (λ (z : Task). WasActive queue z ⊎ Begins journal functions to_b z) k (active (subst (λ (z : Task). is_active z.stage ≡ true) (sym k) a)))
-        (λ (k : Has queue y × (y.no ≡ x.no → ⊥)). inl (record { task = y; has = k.0; no = refl; command = refl; active = a; remote = λ r. r }))
+        (λ (k : at_stage stage x ≡ y). subst (λ (z : Task). WasActive queue z ⊎ Begins journal functions to_b z) k
+        (active (subst (λ (z : Task). is_active z.stage ≡ true) (sym k) a)))
+        (λ (k : Has queue y × (y.no ≡ x.no → ⊥)). inl
+        (record { task = y; has = k.0; no = refl; command = refl; active = a; remote = λ r. r }))
         (has_with (at_stage stage x) queue y m)
 
 -- a command is over
-pub record Over_by (P : ℕ → ℕ → Type 0) (o : Opening) (s : State) (journal : List Logged) (x : Task) (e : Logged) (functions : List Open) (control : ControlState) (blocks : List (List ℕ)) : Type 0 where
+pub record Over_by (P : ℕ → ℕ → Type 0) (o : Opening) (s : State) (journal : List Logged) (x : Task) (e : Logged)
+    (functions : List Open) (control : ControlState) (blocks : List (List ℕ)) : Type 0 where
   pub lawful : LawfulAt o journal e
   pub entry : is_entry x.no e.event ≡ true
   pub no_work : e.work ≡ None
@@ -132,11 +157,14 @@ pub record Over_by (P : ℕ → ℕ → Type 0) (o : Opening) (s : State) (journ
   pub own : Own s x e.event
   pub opens : Opens P (journal ++ e ∷ []) s.arrivals s.tasks functions s.to_a s.to_b
   pub blocks_same : blocks ≡ s.blocks
-  pub rules : Rules o.blocks (disk_after journal e.event (serial_disk o journal)) control (with_task (at_stage Over x) s.tasks)
-  pub holds : IsRestricted o journal → Holds o.blocks (disk_after journal e.event (serial_disk o journal)) blocks (with_task (at_stage Over x) s.tasks)
+  pub rules : Rules o.blocks (disk_after journal e.event (serial_disk o journal)) control
+      (with_task (at_stage Over x) s.tasks)
+  pub holds : IsRestricted o journal → Holds o.blocks (disk_after journal e.event (serial_disk o journal)) blocks
+      (with_task (at_stage Over x) s.tasks)
 
 abbrev pub over_state : State → Task → List Open → ControlState → List (List ℕ) → State
-over_state s x functions control blocks = record s { tasks = with_task (at_stage Over x) s.tasks; functions = functions; control = control; blocks = blocks }
+over_state s x functions control blocks =
+    record s { tasks = with_task (at_stage Over x) s.tasks; functions = functions; control = control; blocks = blocks }
 
 -- where nothing else changes
 abbrev pub over_alone : State → Task → State
@@ -153,28 +181,57 @@ entry_so P o s journal x e functions control blocks h hx alive v = record {
     works = h.frame.works ∙ sym (works_in-none journal e v.no_work);
     size = ap length v.blocks_same ∙ h.frame.size;
     books = books_turns journal s.arrivals s.tasks s.to_a x Over e h.frame.books hx
-        (record { entry = or_right (has (is_entry x.no) journal) _ v.entry; begin = λ k. absurd (cc); made = λ k. absurd (cc); enters = v.own.enters }) v.own.mine v.own.old;
-    orders = orders_turns (journal ++ e ∷ []) s.tasks x Over hx refl (orders_event journal s.tasks e v.own.enters h.frame.orders);
-    opens = opens_turns P (journal ++ e ∷ []) s.arrivals s.tasks functions s.to_a s.to_b x Over hx (λ a. absurd (cc)) v.opens;
+        (record {
+          entry = or_right (has (is_entry x.no) journal) _ v.entry;
+          begin = λ k. absurd (cc);
+          made = λ k. absurd (cc);
+          enters = v.own.enters;
+        }) v.own.mine v.own.old;
+    orders =
+        orders_turns (journal ++ e ∷ []) s.tasks x Over hx refl
+        (orders_event journal s.tasks e v.own.enters h.frame.orders);
+    opens = opens_turns P (journal ++ e ∷ []) s.arrivals s.tasks functions s.to_a s.to_b x Over hx
+        (λ a. absurd (cc)) v.opens;
   };
-  rules = subst (λ d. Rules o.blocks d control (with_task (at_stage Over x) s.tasks)) (sym (serial-more o journal e)) v.rules;
+  rules = subst (λ d. Rules o.blocks d control (with_task (at_stage Over x) s.tasks))
+      (sym (serial-more o journal e)) v.rules;
   cells = cells_event o s (over_state s x functions control blocks) journal e v.no_move v.blocks_same h.blocks
       (λ y m k. ⊎_elim
-      (λ (w : at_stage Over x ≡ y). absurd (both_ways (is_over y.stage) k (subst (λ (z : Task). is_over z.stage ≡ true) w refl)))
+      (λ (w : at_stage Over x ≡ y). absurd
+      (both_ways (is_over y.stage) k (subst (λ (z : Task). is_over z.stage ≡ true) w refl)))
       (λ (w : Has s.tasks y × (y.no ≡ x.no → ⊥)). h.gained y w.0 w.1 k)
       (has_with (at_stage Over x) s.tasks y m))
       (λ m k. h.ungained m (sym (has_same (is_enter m) journal e (v.own.enters m)) ∙ k));
-  holds = λ r. subst (λ d. Holds o.blocks d blocks (with_task (at_stage Over x) s.tasks)) (sym (serial-more o journal e)) (v.holds (restricted_before o journal e r));
+  holds = λ r. subst (λ d. Holds o.blocks d blocks (with_task (at_stage Over x) s.tasks))
+      (sym (serial-more o journal e)) (v.holds (restricted_before o journal e r));
 }
 
 -- from A it leaves at once
-pub leaves_so : (P : ℕ → ℕ → Type 0) (o : Opening) (s : State) (journal : List Logged) (x : Task) (functions : List Open) (control : ControlState) (blocks : List (List ℕ)) → has (is_entry x.no) journal ≡ true →
-    Inv P o (over_state s x functions control blocks) journal → Inv P o (record s { tasks = without_task x.no s.tasks; functions = functions; control = control; blocks = blocks }) journal
+pub leaves_so : (P : ℕ → ℕ → Type 0) (o : Opening) (s : State) (journal : List Logged) (x : Task)
+    (functions : List Open) (control : ControlState) (blocks : List (List ℕ)) → has (is_entry x.no) journal ≡ true →
+    Inv P o (over_state s x functions control blocks) journal →
+    Inv P o (record s {
+      tasks = without_task x.no s.tasks;
+      functions = functions;
+      control = control;
+      blocks = blocks;
+    }) journal
 leaves_so P o s journal x functions control blocks over h =
-    subst (λ q. Inv P o (record s { tasks = q; functions = functions; control = control; blocks = blocks }) journal) (without_with x.no (at_stage Over x) s.tasks refl)
+    subst (λ q. Inv P o (record s { tasks = q; functions = functions; control = control; blocks = blocks }) journal)
+    (without_with x.no (at_stage Over x) s.tasks refl)
     (gone_so P o (over_state s x functions control blocks) journal x.no over h)
 
 -- from B a message says so
-pub tells_so : (P : ℕ → ℕ → Type 0) (o : Opening) (s : State) (journal : List Logged) (x : Task) (k : Kind2) (functions : List Open) (control : ControlState) (blocks : List (List ℕ)) → is_arrival k ≡ false → has (is_entry x.no) journal ≡ true →
-    Inv P o (over_state s x functions control blocks) journal → Inv P o (record s { tasks = with_task (at_stage Over x) s.tasks; functions = functions; control = control; blocks = blocks; to_a = s.to_a ++ message k x.no ∷ [] }) journal
-tells_so P o s journal x k functions control blocks no_work over h = tells_a P o (over_state s x functions control blocks) journal (message k x.no) no_work over h
+pub tells_so : (P : ℕ → ℕ → Type 0) (o : Opening) (s : State) (journal : List Logged) (x : Task) (k : Kind2)
+    (functions : List Open) (control : ControlState) (blocks : List (List ℕ)) → is_arrival k ≡ false →
+    has (is_entry x.no) journal ≡ true →
+    Inv P o (over_state s x functions control blocks) journal →
+    Inv P o (record s {
+      tasks = with_task (at_stage Over x) s.tasks;
+      functions = functions;
+      control = control;
+      blocks = blocks;
+      to_a = s.to_a ++ message k x.no ∷ [];
+    }) journal
+tells_so P o s journal x k functions control blocks no_work over h =
+    tells_a P o (over_state s x functions control blocks) journal (message k x.no) no_work over h

@@ -12,7 +12,8 @@ use Rattle.ct_book.specs.Journals.{numbered}
 use Rattle.ct_book.specs.Histories.{cut_at}
 use Rattle.ct_exec.specs.Controls.{Disk, is_unrestricted}
 use Rattle.ct_machine.specs.declared.act.Opening.{Opening}
-use Rattle.ct_machine.specs.States.{Task, Stage, Waiting, Open, Arrival, State, is_waiting, done_at, with_task, at_stage}
+use Rattle.ct_machine.specs.States.{Task, Stage, Waiting, Open, Arrival, State, is_waiting, done_at, with_task}
+use Rattle.ct_machine.specs.States.{at_stage}
 use Rattle.ct_machine.specs.Serial.{serial_disk}
 use Rattle.ct_machine.specs.Laws.Journals.{has, is_entry, is_begin, is_enter, made_at}
 use Rattle.ct_machine.specs.Laws.Legal.{IsRestricted}
@@ -50,11 +51,13 @@ first_event true n = event.Granted n
 first_event false n = event.Begun n
 
 -- an event of the command alone
-pub own_alone : (P : ℕ → ℕ → Type 0) (o : Opening) (s : State) (journal : List Logged) (x : Task) (e : Event) → Frame P o s journal → Has s.tasks x → ((n : ℕ) → is_enter n e ≡ false) → ((n : ℕ) → IsOf e n → x.no ≡ n) → Own s x e
+pub own_alone : (P : ℕ → ℕ → Type 0) (o : Opening) (s : State) (journal : List Logged) (x : Task) (e : Event) →
+    Frame P o s journal → Has s.tasks x → ((n : ℕ) → is_enter n e ≡ false) → ((n : ℕ) → IsOf e n → x.no ≡ n) → Own s x e
 own_alone P o s journal x e h hx enters only = record {
   enters = enters;
   mine = λ n i. inl (only n i);
-  old = λ n k i. both_ways (has (is_enter n) journal) (h.books.fresh n k).enter (subst (λ m. has (is_enter m) journal ≡ true) (only n i) (h.books.entered x hx));
+  old = λ n k i. both_ways (has (is_enter n) journal) (h.books.fresh n k).enter
+      (subst (λ m. has (is_enter m) journal ≡ true) (only n i) (h.books.entered x hx));
 }
 
 -- a command that has begun isn't over
@@ -64,16 +67,22 @@ begun_at stage d g (inl k) = (ap is_over k, ap is_waiting k, ap got_at k)
 begun_at stage d g (inr k) = (ap is_over k, ap is_waiting k, ap got_at k)
 
 -- the number of a command is that of no open function
-pub not_open : (P : ℕ → ℕ → Type 0) (o : Opening) (s : State) (journal : List Logged) (x : Task) → Frame P o s journal → Has s.tasks x → (p : Open) → HasOpen s.functions p → x.no ≡ p.no → ⊥
+pub not_open : (P : ℕ → ℕ → Type 0) (o : Opening) (s : State) (journal : List Logged) (x : Task) → Frame P o s journal →
+    Has s.tasks x → (p : Open) → HasOpen s.functions p → x.no ≡ p.no → ⊥
 not_open P o s journal x h hx p hp e =
     let a = h.opens.asked p hp in
-    let k : Some (arrival_for x) ≡ Some (record { node = a.node; work = work.Ask p.ask }) = sym (h.books.known x hx) ∙ ap (λ n. numbered n s.arrivals) e ∙ a.came in
+    let k : Some (arrival_for x) ≡ Some (record { node = a.node; work = work.Ask p.ask }) =
+    sym (h.books.known x hx) ∙ ap (λ n. numbered n s.arrivals) e ∙ a.came in
     let w : work.Cmd x.command ≡ work.Ask p.ask = ap (λ (z : Arrival). z.work) (same_Some _ _ k) in
     cc
 
 -- a waiting command takes its first stage
-pub begun_so : (P : ℕ → ℕ → Type 0) (laws : Laws) (o : Opening) (s : State) (journal : List Logged) (x : Task) (t : Bool) → ((f n : ℕ) → P f n → ⊥) → Inv P o s journal → Has s.tasks x → x.stage ≡ Waiting → IsReady o.blocks (is_unrestricted s.control) x s.tasks → s.functions ≡ [] →
-    refusal_of s.control o.blocks x.command ≡ None → has_operations (plan_in o.blocks x.command) ≡ true → Inv P o (record s { tasks = with_task (at_stage (first_stage t) x) s.tasks }) (journal ++ told (first_event t x.no) ∷ [])
+pub begun_so : (P : ℕ → ℕ → Type 0) (laws : Laws) (o : Opening) (s : State) (journal : List Logged) (x : Task)
+    (t : Bool) → ((f n : ℕ) → P f n → ⊥) → Inv P o s journal → Has s.tasks x → x.stage ≡ Waiting →
+    IsReady o.blocks (is_unrestricted s.control) x s.tasks → s.functions ≡ [] →
+    refusal_of s.control o.blocks x.command ≡ None → has_operations (plan_in o.blocks x.command) ≡ true →
+    Inv P o (record s { tasks = with_task (at_stage (first_stage t) x) s.tasks })
+    (journal ++ told (first_event t x.no) ∷ [])
 begun_so P laws o s journal x t idle h hx st ready none allowed moves = record {
   frame = record {
     each = each_more (LawfulAt o) [] journal e h.frame.each (lawful t (in_order P laws o s journal x h hx st ready));
@@ -82,15 +91,19 @@ begun_so P laws o s journal x t idle h hx st ready none allowed moves = record {
     books = books_turns journal s.arrivals s.tasks s.to_a x (first_stage t) e h.frame.books hx (record {
       entry = or_from _ _ unended (entry t) ∙ sym (over t);
       begin = λ k. or_right (has (is_begin x.no) journal) _ (begin t) ∙ sym (ap not (waits t));
-      made = λ k. let a = h.frame.books.made x hx (ap is_over st) in let b = ap done_at st in let c = count t in let d = done t in omega (arith, a, b, c, d);
+      made = λ k. let a = h.frame.books.made x hx (ap is_over st) in let b = ap done_at st in let c = count t in
+          let d = done t in omega (arith, a, b, c, d);
       enters = enters t;
     }) own.mine own.old;
-    orders = orders_turns (journal ++ e ∷ []) s.tasks x (first_stage t) hx (waits t) (orders_event journal s.tasks e (enters t) h.frame.orders);
+    orders =
+        orders_turns (journal ++ e ∷ []) s.tasks x (first_stage t) hx (waits t)
+        (orders_event journal s.tasks e (enters t) h.frame.orders);
     opens = opens_turns P (journal ++ e ∷ []) s.arrivals s.tasks s.functions s.to_a s.to_b x (first_stage t) hx
         (λ a. inr (record { closed = none; unsent = λ f k. unsent f k }))
         (opens_event P journal s.arrivals s.tasks s.functions s.to_a s.to_b e (λ p hp. alone t p) h.frame.opens);
   };
-  rules = rules_same o journal e s.control (with_task (at_stage (first_stage t) x) s.tasks) (serial-same o journal e (still t))
+  rules = rules_same o journal e s.control (with_task (at_stage (first_stage t) x) s.tasks)
+      (serial-same o journal e (still t))
       (begins_rules o.blocks (serial_disk o journal) s.control s.tasks x t h.rules hx allowed moves);
   cells = cells_event o s (record s { tasks = with_task (at_stage (first_stage t) x) s.tasks }) journal e
       (unmoved t) refl h.cells.blocks
@@ -102,8 +115,10 @@ begun_so P laws o s journal x t idle h hx st ready none allowed moves = record {
       (λ (w : Has s.tasks y × (y.no ≡ x.no → ⊥)). h.cells.gained y w.0 k)
       (has_with (at_stage (first_stage t) x) s.tasks y m))
       (λ m k. h.cells.ungained m (sym (has_same (is_enter m) journal e (enters t m)) ∙ k));
-  holds = holds_same o journal e s.blocks (with_task (at_stage (first_stage t) x) s.tasks) (serial-same o journal e (still t))
-      (λ r. begins_held laws o.blocks (serial_disk o journal) s.blocks s.tasks x t (h.holds r) h.rules.single hx st (subst (λ b. IsReady o.blocks b x s.tasks) (restricted_now r) ready));
+  holds = holds_same o journal e s.blocks (with_task (at_stage (first_stage t) x) s.tasks)
+      (serial-same o journal e (still t))
+      (λ r. begins_held laws o.blocks (serial_disk o journal) s.blocks s.tasks x t (h.holds r) h.rules.single hx st
+      (subst (λ b. IsReady o.blocks b x s.tasks) (restricted_now r) ready));
 }
   where
     e : Logged
@@ -118,7 +133,8 @@ begun_so P laws o s journal x t idle h hx st ready none allowed moves = record {
     unsent : (f : ℕ) → IsStop x.no f s.to_b → ⊥
     unsent f k = ⊎_elim
         (λ (b : has (is_begin x.no) journal ≡ true). both_ways _ unbegun b)
-        (λ (b : (has (is_entry x.no) journal ≡ true) ⊎ P f x.no). ⊎_elim (λ (c : has (is_entry x.no) journal ≡ true). both_ways _ unended c) (λ (c : P f x.no). idle f x.no c) b)
+        (λ (b : (has (is_entry x.no) journal ≡ true) ⊎ P f x.no). ⊎_elim
+        (λ (c : has (is_entry x.no) journal ≡ true). both_ways _ unended c) (λ (c : P f x.no). idle f x.no c) b)
         (h.frame.opens.begun x.no f k)
 
     restricted_now : IsRestricted o journal → is_unrestricted s.control ≡ false
@@ -171,7 +187,8 @@ begun_so P laws o s journal x t idle h hx st ready none allowed moves = record {
     own : Own s x (first_event t x.no)
     own = own_alone P o s journal x (first_event t x.no) h.frame hx (enters t) (only t)
 
-    alone : (t : Bool) (p : Open) → (is_entry p.no (first_event t x.no) ≡ false) × (cut_at p.no (first_event t x.no) ≡ [])
+    alone : (t : Bool) (p : Open) → (is_entry p.no (first_event t x.no) ≡ false)
+        × (cut_at p.no (first_event t x.no) ≡ [])
     alone true p = (refl, refl)
     alone false p = (refl, refl)
 
@@ -179,8 +196,30 @@ begun_so P laws o s journal x t idle h hx st ready none allowed moves = record {
     known = known_in P o s journal x h.frame hx
 
     lawful : (t : Bool) → IsBehindAll o journal x.no → LawfulAt o journal (told (first_event t x.no))
-    lawful true b = record { once = λ m k. absurd (cc); typed = record { work = (x.command, known); by = tt; closed = tt }; orderly = λ none. b; reorders = tt; plan = tt; prefix = tt; cells = tt; sound = tt; legal = λ r. tt }
-    lawful false b = record { once = λ m k. absurd (cc); typed = record { work = (x.command, known); by = tt; closed = tt }; orderly = λ none. b; reorders = tt; plan = tt; prefix = tt; cells = tt; sound = tt; legal = λ r. tt }
+    lawful true b = record {
+      once = λ m k. absurd
+          (cc);
+      typed = record { work = (x.command, known); by = tt; closed = tt };
+      orderly = λ none. b;
+      reorders = tt;
+      plan = tt;
+      prefix = tt;
+      cells = tt;
+      sound = tt;
+      legal = λ r. tt;
+    }
+    lawful false b = record {
+      once = λ m k. absurd
+          (cc);
+      typed = record { work = (x.command, known); by = tt; closed = tt };
+      orderly = λ none. b;
+      reorders = tt;
+      plan = tt;
+      prefix = tt;
+      cells = tt;
+      sound = tt;
+      legal = λ r. tt;
+    }
 
 -- Moves
 

@@ -22,7 +22,8 @@ arriving_by Q node w n s sent taken = go (is_remote node) sent taken
   where
     go : (t : Bool) → (t ≡ true → Q (writes (arrived n node w) s)) →
         (t ≡ false → Q (arriving_here node w n s).turn) →
-        Q (cond {A = Done} t (record { turn = writes (arrived n node w) s; answer = answer.Sent n }) (arriving_here node w n s)).turn
+        Q (cond {A = Done} t (record { turn = writes (arrived n node w) s; answer = answer.Sent n })
+        (arriving_here node w n s)).turn
     go true sent taken = sent refl
     go false sent taken = taken refl
 
@@ -33,11 +34,13 @@ sent_if false n w ms = ms
 
 -- the state before a work is sent on
 abbrev pub came_in : Arrival → State → State
-came_in arrival s = with_room (pieces_of arrival.work s) arrival.work (record s { arrivals = s.arrivals ++ arrival ∷ [] })
+came_in arrival s =
+    with_room (pieces_of arrival.work s) arrival.work (record s { arrivals = s.arrivals ++ arrival ∷ [] })
 
 -- what holds of the state that a work leaves that came here, or at the other node
 pub came_by : (P : State → Type 0) (n : ℕ) (node : Node) (w : KeptWork) (s : State) (t : Bool) → is_remote node ≡ t →
-    P (cond {A = State} t (to_a (message (kind_of w) n) (came_in (record { node = node; work = w }) s)) (came_in (record { node = node; work = w }) s)) →
+    P (cond {A = State} t (to_a (message (kind_of w) n) (came_in (record { node = node; work = w }) s))
+    (came_in (record { node = node; work = w }) s)) →
     P (after_came n node (Some w) s)
 came_by P n node w s t e h =
     let arrival : Arrival = record { node = node; work = w } in
@@ -45,17 +48,24 @@ came_by P n node w s t e h =
 
 -- the state that a work leaves that came
 pub after_arrived : (n : ℕ) (node : Node) (w : KeptWork) (s : State) → (room : Room) ×
-    (after s (arrived n node w) ≡ came_with s (record { node = node; work = w }) room (sent_if (is_remote node) n w s.to_a))
+    (after s (arrived n node w) ≡ came_with s (record { node = node; work = w }) room
+    (sent_if (is_remote node) n w s.to_a))
 unfolding after
 after_arrived n node w s = ((came_in (record { node = node; work = w }) s).room, go (is_remote node) w)
   where
     go : (t : Bool) (w : KeptWork) →
-        cond {A = State} t (to_a (message (kind_of w) n) (came_in (record { node = node; work = w }) s)) (came_in (record { node = node; work = w }) s)
-        ≡ came_with s (record { node = node; work = w }) (came_in (record { node = node; work = w }) s).room (sent_if t n w s.to_a)
+        cond {A = State} t (to_a (message (kind_of w) n) (came_in (record { node = node; work = w }) s))
+        (came_in (record { node = node; work = w }) s)
+        ≡ came_with s (record { node = node; work = w }) (came_in (record { node = node; work = w }) s).room
+        (sent_if t n w s.to_a)
     go true (work.Cmd c) = refl
     go true (work.Ask ask) = refl
     go false (work.Cmd c) = refl
     go false (work.Ask ask) = refl
 
-pub came_last : (s : State) (node : Node) (w : KeptWork) → numbered (next_number s) (after s (arrived (next_number s) node w)).arrivals ≡ Some (record { node = node; work = w })
-came_last s node w = ap (λ (t : State). numbered (next_number s) t.arrivals) (after_arrived (next_number s) node w s).1 ∙ numbered_last (next_number s) s.arrivals (record { node = node; work = w }) refl
+pub came_last : (s : State) (node : Node) (w : KeptWork) →
+    numbered (next_number s) (after s (arrived (next_number s) node w)).arrivals ≡ Some
+    (record { node = node; work = w })
+came_last s node w =
+    ap (λ (t : State). numbered (next_number s) t.arrivals) (after_arrived (next_number s) node w s).1 ∙ numbered_last
+    (next_number s) s.arrivals (record { node = node; work = w }) refl

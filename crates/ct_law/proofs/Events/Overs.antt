@@ -48,24 +48,34 @@ use Rattle.ct_law.proofs.Rows.Laws.{Laws, IsOnce, Same}
 use Rattle.ct_law.proofs.Rows.Ready.{IsReady}
 use Rattle.ct_law.proofs.Cells.Ends.{IsAt, at_active, at_done, at_further, running_in, cut_held, cut_rules, ran_held}
 use Rattle.ct_law.proofs.Cells.Ends.{ready_begun}
-use Rattle.ct_law.proofs.Cells.Ends.{ran_rules, once_same, once_rules, once_held, puts_at, disk_cut, comes_to, moved_state}
+use Rattle.ct_law.proofs.Cells.Ends.{ran_rules, once_same, once_rules, once_held, puts_at, disk_cut, comes_to}
+use Rattle.ct_law.proofs.Cells.Ends.{moved_state}
 use Rattle.ct_law.proofs.Inv.{in_order}
 use Rattle.ct_law.proofs.Events.Entries.{Own, over_state, over_alone, entry_so}
 use Rattle.ct_law.proofs.Events.Moves.{own_alone, begun_at, not_open, Moved, moved_event, moves_so}
 
 -- facts about a command of the task set that isn't over
-unended : (P : ℕ → ℕ → Type 0) (o : Opening) (s : State) (journal : List Logged) (x : Task) → Frame P o s journal → Has s.tasks x → is_over x.stage ≡ false → has (is_entry x.no) journal ≡ false
+unended : (P : ℕ → ℕ → Type 0) (o : Opening) (s : State) (journal : List Logged) (x : Task) → Frame P o s journal →
+    Has s.tasks x → is_over x.stage ≡ false → has (is_entry x.no) journal ≡ false
 unended P o s journal x h hx alive = h.books.entry x hx ∙ alive
 
-once_entry : (n : ℕ) (journal : List Logged) → has (is_entry n) journal ≡ false → (m : ℕ) → nat_eq n m ≡ true → has (is_entry m) journal ≡ false
+once_entry : (n : ℕ) (journal : List Logged) → has (is_entry n) journal ≡ false → (m : ℕ) → nat_eq n m ≡ true →
+    has (is_entry m) journal ≡ false
 once_entry n journal h m k = subst (λ i. has (is_entry i) journal ≡ false) (eqb-true n m k) h
 
 -- the task set and what holds of it, on as many blocks as the state has
-rules_n : (P : ℕ → ℕ → Type 0) (o : Opening) (s : State) (journal : List Logged) → Inv P o s journal → Rules (length s.blocks) (serial_disk o journal) s.control s.tasks
+rules_n : (P : ℕ → ℕ → Type 0) (o : Opening) (s : State) (journal : List Logged) → Inv P o s journal →
+    Rules (length s.blocks) (serial_disk o journal) s.control s.tasks
 rules_n P o s journal h = subst (λ k. Rules k (serial_disk o journal) s.control s.tasks) (sym h.frame.size) h.rules
 
-opens_alone : (P : ℕ → ℕ → Type 0) (o : Opening) (s : State) (journal : List Logged) (x : Task) (e : Logged) → Frame P o s journal → Has s.tasks x → ((p : Open) → HasOpen s.functions p → (x.no ≡ p.no → ⊥) → (is_entry p.no e.event ≡ false) × (cut_at p.no e.event ≡ [])) → Opens P (journal ++ e ∷ []) s.arrivals s.tasks s.functions s.to_a s.to_b
-opens_alone P o s journal x e h hx f = opens_event P journal s.arrivals s.tasks s.functions s.to_a s.to_b e (λ p hp. f p hp (not_open P o s journal x h hx p hp)) h.opens
+opens_alone : (P : ℕ → ℕ → Type 0) (o : Opening) (s : State) (journal : List Logged) (x : Task) (e : Logged) →
+    Frame P o s journal → Has s.tasks x →
+    ((p : Open) → HasOpen s.functions p → (x.no ≡ p.no → ⊥) →
+    (is_entry p.no e.event ≡ false) × (cut_at p.no e.event ≡ [])) → Opens P
+    (journal ++ e ∷ []) s.arrivals s.tasks s.functions s.to_a s.to_b
+opens_alone P o s journal x e h hx f =
+    opens_event P journal s.arrivals s.tasks s.functions s.to_a s.to_b e
+    (λ p hp. f p hp (not_open P o s journal x h hx p hp)) h.opens
 
 -- what a command leaves that ends with these data and this difference, if any, where it is executed whole
 abbrev pub IsWhole : ℕ → Disk → State → Task → Option ℕ → List ℕ → Type 0
@@ -234,8 +244,12 @@ still_active (There done got) alive begun = refl
 still_active Over alive begun = absurd (cc)
 
 -- a command that is refused when it would begin, or has no block operation, ends at once
-pub once_ends : (P : ℕ → ℕ → Type 0) (laws : Laws) (o : Opening) (s : State) (journal : List Logged) (x : Task) → Inv P o s journal → Has s.tasks x → x.stage ≡ Waiting → IsReady o.blocks (is_unrestricted s.control) x s.tasks → IsOnce (refusal_of s.control o.blocks x.command) (plan_in o.blocks x.command) →
-    Inv P o (over_state s x s.functions (execute (disk_of s) x.command).disk.control (execute (disk_of s) x.command).disk.blocks) (journal ++ replied (event.Ended x.no) (execute (disk_of s) x.command).reply ∷ [])
+pub once_ends : (P : ℕ → ℕ → Type 0) (laws : Laws) (o : Opening) (s : State) (journal : List Logged) (x : Task) →
+    Inv P o s journal → Has s.tasks x → x.stage ≡ Waiting → IsReady o.blocks (is_unrestricted s.control) x s.tasks →
+    IsOnce (refusal_of s.control o.blocks x.command) (plan_in o.blocks x.command) →
+    Inv P o (over_state s x s.functions (execute (disk_of s) x.command).disk.control
+    (execute (disk_of s) x.command).disk.blocks)
+    (journal ++ replied (event.Ended x.no) (execute (disk_of s) x.command).reply ∷ [])
 once_ends P laws o s journal x h hx st ready is_once =
     entry_so P o s journal x e s.functions a.disk.control a.disk.blocks (others_of P o s journal x.no h) hx
     (ap is_over st) (record {
@@ -304,12 +318,16 @@ once_ends P laws o s journal x h hx st ready is_once =
     as_executed = (x.command, known, ap Some same.reply)
 
 -- the disk after a cut
-cut_is : (P : ℕ → ℕ → Type 0) (o : Opening) (s : State) (journal : List Logged) (x : Task) (puts : ℕ) → Frame P o s journal → Has s.tasks x → command_cut puts (numbered x.no (works_in journal)) (serial_disk o journal) ≡ cut_disk puts x.command (serial_disk o journal)
+cut_is : (P : ℕ → ℕ → Type 0) (o : Opening) (s : State) (journal : List Logged) (x : Task) (puts : ℕ) →
+    Frame P o s journal → Has s.tasks x → command_cut puts (numbered x.no (works_in journal)) (serial_disk o journal)
+    ≡ cut_disk puts x.command (serial_disk o journal)
 cut_is P o s journal x puts h hx = ap (λ w. command_cut puts w (serial_disk o journal)) (known_in P o s journal x h hx)
 
 -- a command is cut: what it put is what its operations put
-pub cut_so : (P : ℕ → ℕ → Type 0) (o : Opening) (s : State) (journal : List Logged) (x : Task) (e : Logged) (why : Why) (told_so : Bool) (functions : List Open) → Inv P o s journal → Has s.tasks x → is_over x.stage ≡ false →
-    e.event ≡ event.Cut x.no (puts_at o.blocks x) why told_so → e.work ≡ None → LawfulAt o journal e → Own s x e.event → Opens P (journal ++ e ∷ []) s.arrivals s.tasks functions s.to_a s.to_b →
+pub cut_so : (P : ℕ → ℕ → Type 0) (o : Opening) (s : State) (journal : List Logged) (x : Task) (e : Logged) (why : Why)
+    (told_so : Bool) (functions : List Open) → Inv P o s journal → Has s.tasks x → is_over x.stage ≡ false →
+    e.event ≡ event.Cut x.no (puts_at o.blocks x) why told_so → e.work ≡ None → LawfulAt o journal e → Own s x e.event →
+    Opens P (journal ++ e ∷ []) s.arrivals s.tasks functions s.to_a s.to_b →
     Inv P o (over_state s x functions s.control s.blocks) (journal ++ e ∷ [])
 cut_so P o s journal x e why told_so functions h hx alive is no_work lawful own opens =
     entry_so P o s journal x e functions s.control s.blocks (others_of P o s journal x.no h) hx alive (record {
@@ -332,15 +350,21 @@ cut_so P o s journal x e why told_so functions h hx alive is no_work lawful own 
     now : disk_after journal e.event d ≡ disk_cut o.blocks d x
     now = ap (λ k. disk_after journal k d) is ∙ cut_is P o s journal x (puts_at o.blocks x) h.frame hx
 
-prefix_of : (P : ℕ → ℕ → Type 0) (o : Opening) (s : State) (journal : List Logged) (x : Task) → Frame P o s journal → Has s.tasks x → is_over x.stage ≡ false → (c : Command) → IsCommandOf journal x.no c → puts_at o.blocks x ≡ puts_among (take (made_by x.no journal) (plan_in o.blocks c))
+prefix_of : (P : ℕ → ℕ → Type 0) (o : Opening) (s : State) (journal : List Logged) (x : Task) → Frame P o s journal →
+    Has s.tasks x → is_over x.stage ≡ false → (c : Command) → IsCommandOf journal x.no c →
+    puts_at o.blocks x ≡ puts_among (take (made_by x.no journal) (plan_in o.blocks c))
 prefix_of P o s journal x h hx alive c w =
     let k : Some (work.Cmd x.command) ≡ Some (work.Cmd c) = sym (known_in P o s journal x h hx) ∙ w in
     let same : x.command ≡ c = cc in
-    ap (λ z. puts_among (take (done_at x.stage) (plan_in o.blocks z))) same ∙ ap (λ m. puts_among (take m (plan_in o.blocks c))) (sym (h.books.made x hx alive))
+    ap (λ z. puts_among (take (done_at x.stage) (plan_in o.blocks z))) same ∙ ap
+    (λ m. puts_among (take m (plan_in o.blocks c))) (sym (h.books.made x hx alive))
 
 -- by a fault of the medium
-pub medium_so : (P : ℕ → ℕ → Type 0) (o : Opening) (s : State) (journal : List Logged) (x : Task) (done : ℕ) (got : List ℕ) (operation : BlockOp) → Inv P o s journal → Has s.tasks x → IsAt x.stage done got → slice_get (plan_in o.blocks x.command) done ≡ Some operation →
-    Inv P o (over_state s x s.functions s.control s.blocks) (journal ++ replied (event.Cut x.no (puts_at o.blocks x) Medium false) (reply_failed s.control operation) ∷ [])
+pub medium_so : (P : ℕ → ℕ → Type 0) (o : Opening) (s : State) (journal : List Logged) (x : Task) (done : ℕ)
+    (got : List ℕ) (operation : BlockOp) → Inv P o s journal → Has s.tasks x → IsAt x.stage done got →
+    slice_get (plan_in o.blocks x.command) done ≡ Some operation →
+    Inv P o (over_state s x s.functions s.control s.blocks)
+    (journal ++ replied (event.Cut x.no (puts_at o.blocks x) Medium false) (reply_failed s.control operation) ∷ [])
 medium_so P o s journal x done got operation h hx at failed =
     cut_so P o s journal x e Medium false s.functions h hx b.0 refl refl (record {
       once = once_entry x.no journal (unended P o s journal x h.frame hx b.0);
@@ -372,13 +396,20 @@ medium_so P o s journal x done got operation h hx at failed =
     )
 
 -- or by a function that is open and hits it
-pub by_so : (P : ℕ → ℕ → Type 0) (o : Opening) (s : State) (journal : List Logged) (x : Task) (f : ℕ) (node : Node) (ask : Ask) (told_so : Bool) → Inv P o s journal → Has s.tasks x → is_over x.stage ≡ false →
-    numbered f s.arrivals ≡ Some (record { node = node; work = work.Ask ask }) → is_hit ask x ≡ true → has (is_asked f) journal ≡ true → has (is_entry f) journal ≡ false →
-    Inv P o (over_state s x (noted f x.no s.functions) s.control s.blocks) (journal ++ told (event.Cut x.no (puts_at o.blocks x) (By f) told_so) ∷ [])
+pub by_so : (P : ℕ → ℕ → Type 0) (o : Opening) (s : State) (journal : List Logged) (x : Task) (f : ℕ) (node : Node)
+    (ask : Ask) (told_so : Bool) → Inv P o s journal → Has s.tasks x → is_over x.stage ≡ false →
+    numbered f s.arrivals ≡ Some (record { node = node; work = work.Ask ask }) → is_hit ask x ≡ true →
+    has (is_asked f) journal ≡ true → has (is_entry f) journal ≡ false →
+    Inv P o (over_state s x (noted f x.no s.functions) s.control s.blocks)
+    (journal ++ told (event.Cut x.no (puts_at o.blocks x) (By f) told_so) ∷ [])
 by_so P o s journal x f node ask told_so h hx alive came hit asked unclosed =
     cut_so P o s journal x e (By f) told_so (noted f x.no s.functions) h hx alive refl refl (record {
       once = once_entry x.no journal (unended P o s journal x h.frame hx alive);
-      typed = record { work = (x.command, known_in P o s journal x h.frame hx); by = ap is_some in_journal; closed = tt };
+      typed = record {
+        work = (x.command, known_in P o s journal x h.frame hx);
+        by = ap is_some in_journal;
+        closed = tt;
+      };
       orderly = tt;
       reorders = tt;
       plan = (h.cells.gained x hx alive).difference;
@@ -391,17 +422,21 @@ by_so P o s journal x f node ask told_so h hx alive came hit asked unclosed =
       enters = λ m. refl;
       mine = λ m i. ⊎_elim inl (λ (k : f ≡ m). inr (λ y hy z. other y hy (z ∙ sym k))) i;
       old = λ m k i. ⊎_elim
-          (λ (z : x.no ≡ m). both_ways (has (is_enter m) journal) (h.frame.books.fresh m k).enter (subst (λ j. has (is_enter j) journal ≡ true) z (h.frame.books.entered x hx)))
-          (λ (z : f ≡ m). both_ways (has (is_asked m) journal) (h.frame.books.fresh m k).asking (subst (λ j. has (is_asked j) journal ≡ true) z asked)) i;
+          (λ (z : x.no ≡ m). both_ways (has (is_enter m) journal) (h.frame.books.fresh m k).enter
+          (subst (λ j. has (is_enter j) journal ≡ true) z (h.frame.books.entered x hx)))
+          (λ (z : f ≡ m). both_ways (has (is_asked m) journal) (h.frame.books.fresh m k).asking
+          (subst (λ j. has (is_asked j) journal ≡ true) z asked)) i;
     })
-    (opens_cut P journal s.arrivals s.tasks s.functions s.to_a s.to_b x.no (puts_at o.blocks x) f told_so e refl (not_open P o s journal x h.frame hx) h.frame.opens)
+    (opens_cut P journal s.arrivals s.tasks s.functions s.to_a s.to_b x.no (puts_at o.blocks x) f told_so e refl
+    (not_open P o s journal x h.frame hx) h.frame.opens)
   where
     e : Logged
     e = told (event.Cut x.no (puts_at o.blocks x) (By f) told_so)
 
     other : (y : Task) → Has s.tasks y → y.no ≡ f → ⊥
     other y hy k =
-        let w : Some (arrival_for y) ≡ Some (record { node = node; work = work.Ask ask }) = sym (h.frame.books.known y hy) ∙ ap (λ n. numbered n s.arrivals) k ∙ came in
+        let w : Some (arrival_for y) ≡ Some (record { node = node; work = work.Ask ask }) =
+        sym (h.frame.books.known y hy) ∙ ap (λ n. numbered n s.arrivals) k ∙ came in
         let z : work.Cmd y.command ≡ work.Ask ask = ap (λ (a : Arrival). a.work) (same_Some _ _ w) in
         cc
 
@@ -418,11 +453,14 @@ by_so P o s journal x f node ask told_so h hx alive came hit asked unclosed =
     )
 
 -- or by a PREEMPT AND ABORT that ended, while it waits
-pub cleared_so : (P : ℕ → ℕ → Type 0) (o : Opening) (s : State) (journal : List Logged) (x : Task) (n : ℕ) (c : Command) (told_so : Bool) → Inv P o s journal → Has s.tasks x → x.stage ≡ Waiting →
+pub cleared_so : (P : ℕ → ℕ → Type 0) (o : Opening) (s : State) (journal : List Logged) (x : Task) (n : ℕ) (c : Command)
+    (told_so : Bool) → Inv P o s journal → Has s.tasks x → x.stage ≡ Waiting →
     IsCommandOf journal n c → has (is_enter n) journal ≡ true → ((y : Task) → Has s.tasks y → y.no ≡ n → ⊥) →
-    Inv P o (over_state s x (noted n x.no s.functions) s.control s.blocks) (journal ++ told (event.Cut x.no 0 (By n) told_so) ∷ [])
+    Inv P o (over_state s x (noted n x.no s.functions) s.control s.blocks)
+    (journal ++ told (event.Cut x.no 0 (By n) told_so) ∷ [])
 cleared_so P o s journal x n c told_so h hx waits by entered gone =
-    subst (λ puts. Inv P o (over_state s x (noted n x.no s.functions) s.control s.blocks) (journal ++ told (event.Cut x.no puts (By n) told_so) ∷ [])) none
+    subst (λ puts. Inv P o (over_state s x (noted n x.no s.functions) s.control s.blocks)
+    (journal ++ told (event.Cut x.no puts (By n) told_so) ∷ [])) none
     (cut_so P o s journal x e (By n) told_so (noted n x.no s.functions) h hx alive refl refl (record {
       once = once_entry x.no journal (unended P o s journal x h.frame hx alive);
       typed = record { work = (x.command, known_in P o s journal x h.frame hx); by = ap is_some by; closed = tt };
@@ -438,10 +476,13 @@ cleared_so P o s journal x n c told_so h hx waits by entered gone =
       enters = λ m. refl;
       mine = λ m i. ⊎_elim inl (λ (k : n ≡ m). inr (λ y hy z. gone y hy (z ∙ sym k))) i;
       old = λ m k i. ⊎_elim
-          (λ (z : x.no ≡ m). both_ways (has (is_enter m) journal) (h.frame.books.fresh m k).enter (subst (λ j. has (is_enter j) journal ≡ true) z (h.frame.books.entered x hx)))
-          (λ (z : n ≡ m). both_ways (has (is_enter m) journal) (h.frame.books.fresh m k).enter (subst (λ j. has (is_enter j) journal ≡ true) z entered)) i;
+          (λ (z : x.no ≡ m). both_ways (has (is_enter m) journal) (h.frame.books.fresh m k).enter
+          (subst (λ j. has (is_enter j) journal ≡ true) z (h.frame.books.entered x hx)))
+          (λ (z : n ≡ m). both_ways (has (is_enter m) journal) (h.frame.books.fresh m k).enter
+          (subst (λ j. has (is_enter j) journal ≡ true) z entered)) i;
     })
-    (opens_cut P journal s.arrivals s.tasks s.functions s.to_a s.to_b x.no (puts_at o.blocks x) n told_so e refl (not_open P o s journal x h.frame hx) h.frame.opens))
+    (opens_cut P journal s.arrivals s.tasks s.functions s.to_a s.to_b x.no (puts_at o.blocks x) n told_so e refl
+    (not_open P o s journal x h.frame hx) h.frame.opens))
   where
     e : Logged
     e = told (event.Cut x.no (puts_at o.blocks x) (By n) told_so)

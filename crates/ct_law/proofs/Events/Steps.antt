@@ -34,15 +34,21 @@ use Rattle.ct_law.proofs.Inv.{LawfulAt, Gained, Inv, got_at, told, restricted_be
 use Rattle.ct_law.proofs.Inv.{cells_quiet}
 
 -- the serial disk and what holds of it are as they were
-pub rules_same : (o : Opening) (journal : List Logged) (e : Logged) (control : ControlState) (tasks : List Task) → serial_disk o (journal ++ e ∷ []) ≡ serial_disk o journal → Rules o.blocks (serial_disk o journal) control tasks → Rules o.blocks (serial_disk o (journal ++ e ∷ [])) control tasks
+pub rules_same : (o : Opening) (journal : List Logged) (e : Logged) (control : ControlState) (tasks : List Task) →
+    serial_disk o (journal ++ e ∷ []) ≡ serial_disk o journal → Rules o.blocks (serial_disk o journal) control tasks →
+    Rules o.blocks (serial_disk o (journal ++ e ∷ [])) control tasks
 rules_same o journal e control tasks same h = subst (λ d. Rules o.blocks d control tasks) (sym same) h
 
-pub holds_same : (o : Opening) (journal : List Logged) (e : Logged) (blocks : List (List ℕ)) (tasks : List Task) → serial_disk o (journal ++ e ∷ []) ≡ serial_disk o journal →
-    (IsRestricted o journal → Holds o.blocks (serial_disk o journal) blocks tasks) → IsRestricted o (journal ++ e ∷ []) → Holds o.blocks (serial_disk o (journal ++ e ∷ [])) blocks tasks
-holds_same o journal e blocks tasks same h r = subst (λ d. Holds o.blocks d blocks tasks) (sym same) (h (restricted_before o journal e r))
+pub holds_same : (o : Opening) (journal : List Logged) (e : Logged) (blocks : List (List ℕ)) (tasks : List Task) →
+    serial_disk o (journal ++ e ∷ []) ≡ serial_disk o journal →
+    (IsRestricted o journal → Holds o.blocks (serial_disk o journal) blocks tasks) →
+    IsRestricted o (journal ++ e ∷ []) → Holds o.blocks (serial_disk o (journal ++ e ∷ [])) blocks tasks
+holds_same o journal e blocks tasks same h r =
+    subst (λ d. Holds o.blocks d blocks tasks) (sym same) (h (restricted_before o journal e r))
 
 -- a message to B that is no stop
-pub tells_b : (P : ℕ → ℕ → Type 0) (o : Opening) (s : State) (journal : List Logged) (m : Message) → is_stop m.kind ≡ false → Inv P o s journal → Inv P o (record s { to_b = s.to_b ++ m ∷ [] }) journal
+pub tells_b : (P : ℕ → ℕ → Type 0) (o : Opening) (s : State) (journal : List Logged) (m : Message) →
+    is_stop m.kind ≡ false → Inv P o s journal → Inv P o (record s { to_b = s.to_b ++ m ∷ [] }) journal
 tells_b P o s journal m no_stop h = record {
   frame = record {
     each = h.frame.each;
@@ -50,7 +56,8 @@ tells_b P o s journal m no_stop h = record {
     size = h.frame.size;
     books = h.frame.books;
     orders = h.frame.orders;
-    opens = opens_b P journal s.arrivals s.tasks s.functions s.to_a s.to_b (s.to_b ++ m ∷ []) (λ n f k. stop_other n f s.to_b m no_stop k) h.frame.opens;
+    opens = opens_b P journal s.arrivals s.tasks s.functions s.to_a s.to_b (s.to_b ++ m ∷ [])
+        (λ n f k. stop_other n f s.to_b m no_stop k) h.frame.opens;
   };
   rules = h.rules;
   cells = record { blocks = h.cells.blocks; gained = h.cells.gained; ungained = h.cells.ungained };
@@ -58,7 +65,8 @@ tells_b P o s journal m no_stop h = record {
 }
 
 -- what came at B is answered there
-pub answers : (P : ℕ → ℕ → Type 0) (o : Opening) (s : State) (journal : List Logged) (k : Kind2) (n : ℕ) → is_stop k ≡ false → Inv P o s journal → Inv P o (answered k n s) journal
+pub answers : (P : ℕ → ℕ → Type 0) (o : Opening) (s : State) (journal : List Logged) (k : Kind2) (n : ℕ) →
+    is_stop k ≡ false → Inv P o s journal → Inv P o (answered k n s) journal
 answers P o s journal k n no_stop h = go (came_remote (arrival_of n s))
   where
     go : (t : Bool) → Inv P o (to_b_if t (message k n) s) journal
@@ -73,22 +81,40 @@ pub record Comes (s : State) (journal : List Logged) (to_a : List Message) (n : 
 abbrev pub came_with : State → Arrival → Room → List Message → State
 came_with s arrival room to_a = record s { arrivals = s.arrivals ++ arrival ∷ []; room = room; to_a = to_a }
 
-pub came_so : (P : ℕ → ℕ → Type 0) (o : Opening) (s : State) (journal : List Logged) (n : ℕ) (node : Node) (w : KeptWork) (room : Room) (to_a : List Message) → n ≡ length s.arrivals + 1 → Inv P o s journal →
+pub came_so : (P : ℕ → ℕ → Type 0) (o : Opening) (s : State) (journal : List Logged) (n : ℕ) (node : Node)
+    (w : KeptWork) (room : Room) (to_a : List Message) → n ≡ length s.arrivals + 1 → Inv P o s journal →
     Comes s (journal ++ arrived n node w ∷ []) to_a n (record { node = node; work = w }) →
     Inv P o (came_with s (record { node = node; work = w }) room to_a) (journal ++ arrived n node w ∷ [])
 came_so P o s journal n node w room to_a next h comes = record {
   frame = record {
-    each = each_more (LawfulAt o) [] journal e h.frame.each (record { once = λ m k. absurd (cc); typed = record { work = tt; by = tt; closed = tt }; orderly = tt; reorders = tt; plan = tt; prefix = tt; cells = tt; sound = tt; legal = λ r. tt });
-    works = map-append (λ (a : Arrival). a.work) s.arrivals (arrival ∷ []) ∙ ap (λ ws. ws ++ w ∷ []) h.frame.works ∙ sym (works_in-more journal e (Some w) refl);
+    each = each_more (LawfulAt o) [] journal e h.frame.each
+        (record {
+          once = λ m k. absurd (cc);
+          typed = record { work = tt; by = tt; closed = tt };
+          orderly = tt;
+          reorders = tt;
+          plan = tt;
+          prefix = tt;
+          cells = tt;
+          sound = tt;
+          legal = λ r. tt;
+        });
+    works = map-append (λ (a : Arrival). a.work) s.arrivals (arrival ∷ []) ∙ ap (λ ws. ws ++ w ∷ []) h.frame.works ∙ sym
+        (works_in-more journal e (Some w) refl);
     size = h.frame.size;
     books = comes.books;
     orders = orders_event journal s.tasks e (λ m. refl) h.frame.orders;
-    opens = opens_a P (journal ++ e ∷ []) (s.arrivals ++ arrival ∷ []) s.tasks s.functions s.to_a to_a s.to_b (λ m k. has_stays (is_entry m) journal e (h.frame.opens.gone m (comes.gone m k)))
-        (opens_came P (journal ++ e ∷ []) s.arrivals s.tasks s.functions s.to_a s.to_b arrival (untouched_more (length s.arrivals + 1) journal e (h.frame.books.fresh (length s.arrivals + 1) (inl (omega arith))) (quiet (length s.arrivals + 1) e.event (λ z. z)))
+    opens = opens_a P (journal ++ e ∷ []) (s.arrivals ++ arrival ∷ []) s.tasks s.functions s.to_a to_a s.to_b
+        (λ m k. has_stays (is_entry m) journal e (h.frame.opens.gone m (comes.gone m k)))
+        (opens_came P (journal ++ e ∷ []) s.arrivals s.tasks s.functions s.to_a s.to_b arrival
+        (untouched_more (length s.arrivals + 1) journal e
+        (h.frame.books.fresh (length s.arrivals + 1) (inl (omega arith)))
+        (quiet (length s.arrivals + 1) e.event (λ z. z)))
         (opens_event P journal s.arrivals s.tasks s.functions s.to_a s.to_b e (λ p hp. (refl, refl)) h.frame.opens));
   };
   rules = rules_same o journal e s.control s.tasks (serial-same o journal e refl) h.rules;
-  cells = cells_quiet o s (came_with s arrival room to_a) journal e h.cells refl refl refl (λ m k. sym (has_same (is_enter m) journal e refl) ∙ k);
+  cells = cells_quiet o s (came_with s arrival room to_a) journal e h.cells refl refl refl
+      (λ m k. sym (has_same (is_enter m) journal e refl) ∙ k);
   holds = holds_same o journal e s.blocks s.tasks (serial-same o journal e refl) h.holds;
 }
   where
@@ -99,20 +125,37 @@ came_so P o s journal n node w room to_a next h comes = record {
     arrival = record { node = node; work = w }
 
 -- a command enters
-pub enter_so : (P : ℕ → ℕ → Type 0) (o : Opening) (s : State) (journal : List Logged) (n : ℕ) (node : Node) (c : Command) → Inv P o s journal → Untouched n journal → (IsAsk n s.to_a → ⊥) →
-    numbered n s.arrivals ≡ Some (record { node = node; work = work.Cmd c }) → refusal_behind (standings_of o) o journal c ≡ None → Inv P o (record s { tasks = queued (new_task n node c) s.tasks }) (journal ++ told (event.Enter n) ∷ [])
+pub enter_so : (P : ℕ → ℕ → Type 0) (o : Opening) (s : State) (journal : List Logged) (n : ℕ) (node : Node)
+    (c : Command) → Inv P o s journal → Untouched n journal → (IsAsk n s.to_a → ⊥) →
+    numbered n s.arrivals ≡ Some (record { node = node; work = work.Cmd c }) →
+    refusal_behind (standings_of o) o journal c ≡ None →
+    Inv P o (record s { tasks = queued (new_task n node c) s.tasks }) (journal ++ told (event.Enter n) ∷ [])
 enter_so P o s journal n node c h u new at free = record {
   frame = record {
-    each = each_more (LawfulAt o) [] journal e h.frame.each (record { once = λ m k. absurd (cc); typed = record { work = (c, known); by = tt; closed = tt }; orderly = tt; reorders = tt; plan = tt; prefix = tt; cells = tt; sound = (c, known, free); legal = λ r. tt });
+    each = each_more (LawfulAt o) [] journal e h.frame.each
+        (record {
+          once = λ m k. absurd (cc);
+          typed = record { work = (c, known); by = tt; closed = tt };
+          orderly = tt;
+          reorders = tt;
+          plan = tt;
+          prefix = tt;
+          cells = tt;
+          sound = (c, known, free);
+          legal = λ r. tt;
+        });
     works = h.frame.works ∙ sym (works_in-none journal e refl);
     size = h.frame.size;
     books = books_in journal s.arrivals s.tasks s.to_a w e refl h.frame.books refl u new at;
-    orders = orders_in journal s.tasks w e refl other (λ y hy. h.frame.books.entered y hy) h.rules.single u.enter h.frame.orders;
+    orders =
+        orders_in journal s.tasks w e refl other
+        (λ y hy. h.frame.books.entered y hy) h.rules.single u.enter h.frame.orders;
     opens = opens_queue P (journal ++ e ∷ []) s.arrivals s.tasks (queued w s.tasks) s.functions s.to_a s.to_b
         (λ y m a. ⊎_elim (λ (k : Has s.tasks y). inl (record { task = y; has = k; no = refl; command = refl; active = a; remote = λ r. r })) (λ (k : w ≡ y). absurd (both_ways (is_active y.stage) (subst (λ (z : Task). is_active z.stage ≡ false) k refl) a)) (has_queued w s.tasks y m))
         (opens_event P journal s.arrivals s.tasks s.functions s.to_a s.to_b e (λ p hp. (refl, refl)) h.frame.opens);
   };
-  rules = rules_same o journal e s.control (queued w s.tasks) (serial-same o journal e refl) (rules_in o.blocks (serial_disk o journal) s.control s.tasks w h.rules refl other);
+  rules = rules_same o journal e s.control (queued w s.tasks) (serial-same o journal e refl)
+      (rules_in o.blocks (serial_disk o journal) s.control s.tasks w h.rules refl other);
   cells = cells_event o s (record s { tasks = queued w s.tasks }) journal e refl refl h.cells.blocks
       (λ y m alive. ⊎_elim
       (λ (k : Has s.tasks y). h.cells.gained y k alive)
@@ -121,7 +164,8 @@ enter_so P o s journal n node c h u new at free = record {
       (has_queued w s.tasks y m))
       (λ m k. h.cells.ungained m
       (or_false (has (is_enter m) journal) (is_enter m e.event) (sym (has_more (is_enter m) journal e) ∙ k)));
-  holds = holds_same o journal e s.blocks (queued w s.tasks) (serial-same o journal e refl) (λ r. enters_held o.blocks (serial_disk o journal) s.blocks s.tasks w (h.holds r) refl);
+  holds = holds_same o journal e s.blocks (queued w s.tasks) (serial-same o journal e refl)
+      (λ r. enters_held o.blocks (serial_disk o journal) s.blocks s.tasks w (h.holds r) refl);
 }
   where
     e : Logged
@@ -134,7 +178,9 @@ enter_so P o s journal n node c h u new at free = record {
     known = ap (numbered n) (sym h.frame.works) ∙ numbered-map (λ (a : Arrival). a.work) n s.arrivals _ at
 
     other : (y : Task) → Has s.tasks y → y.no ≡ n → ⊥
-    other y hy k = both_ways (has (is_enter n) journal) u.enter (subst (λ m. has (is_enter m) journal ≡ true) k (h.frame.books.entered y hy))
+    other y hy k =
+        both_ways (has (is_enter n) journal) u.enter
+        (subst (λ m. has (is_enter m) journal ≡ true) k (h.frame.books.entered y hy))
 
     or_false : (a b : Bool) → (a || b) ≡ false → a ≡ false
     or_false true b k = absurd (cc)

@@ -1,6 +1,8 @@
--- What each event keeps by which functions are judged: which of them are open, in order of their numbers, and what stops
--- on their way to B say of telling initiators.
-use Rattle.std.proofs.Common.{◌≡◌, ℕ, ◌<◌, ◌≤◌, ◌⊎◌, inl, inr, Bool, true, false, not, ◌&&◌, ◌||◌, List, [], ◌∷◌, ◌++◌, Option, Some, None, map, drop, refl, sym, ap, ◌∙◌, subst, ⊎_elim, nat_eq, eqb-true, eq-eqb, ne_eqb, cond, arith}
+-- What each event keeps by which functions are judged: which of them are open, in order of their numbers, and what
+-- stops on their way to B say of telling initiators.
+use Rattle.std.proofs.Common.{◌≡◌, ℕ, ◌<◌, ◌≤◌, ◌⊎◌, inl, inr, Bool, true, false, not, ◌&&◌, ◌||◌, List, [], ◌∷◌, ◌++◌}
+use Rattle.std.proofs.Common.{Option, Some, None, map, drop, refl, sym, ap, ◌∙◌, subst, ⊎_elim, nat_eq, eqb-true}
+use Rattle.std.proofs.Common.{eq-eqb, ne_eqb, cond, arith}
 use Rattle.std.specs.Prelude.{nat_lt}
 use Rattle.std.proofs.lemmas.Bool.{both_ways, cases_eq, ltb-true, ltb-false}
 use Rattle.std.proofs.lemmas.List.{map-append}
@@ -20,10 +22,13 @@ use Rattle.ct_book.specs.declared.event.Why.TheVariants.{By, Medium}
 use Rattle.ct_book.specs.declared.event.Logged.{Logged}
 use Rattle.ct_book.specs.Journals.{KeptWork, numbered, works_in, arrived}
 use Rattle.ct_machine.specs.declared.act.Opening.{Opening}
-use Rattle.ct_machine.specs.States.{Task, Stage, Waiting, Here, Granted, There, Over, Open, Message, Arrival, State, disk_of, arrival_of, task_of, function_of, with_task, without_task, at_stage, queued}
+use Rattle.ct_machine.specs.States.{Task, Stage, Waiting, Here, Granted, There, Over, Open, Message, Arrival, State}
+use Rattle.ct_machine.specs.States.{disk_of, arrival_of, task_of, function_of, with_task, without_task, at_stage}
+use Rattle.ct_machine.specs.States.{queued}
 use Rattle.ct_machine.specs.Events.Sends.{message, stop, to_b_if, answered, came_remote}
 use Rattle.ct_machine.specs.Events.Ends.{stops_with, is_cleared, ended_at, after_ended, noted, cut_at, after_cut}
-use Rattle.ct_machine.specs.Events.Functions.{stops_by, wants_stop, is_told, awaited_by, with_function, taken_up, after_asked, without_function, closed, works_of}
+use Rattle.ct_machine.specs.Events.Functions.{stops_by, wants_stop, is_told, awaited_by, with_function, taken_up}
+use Rattle.ct_machine.specs.Events.Functions.{after_asked, without_function, closed, works_of}
 use Rattle.ct_machine.specs.Events.Arrivals.{new_task, after_enter}
 use Rattle.ct_machine.specs.Events.Moves.{staged, moved_at, after_moved}
 use Rattle.ct_machine.specs.Events.Deliveries.{awaits_no_more, is_over as gone_at_b, begun_at_b, after_grant}
@@ -84,7 +89,8 @@ pub noted_numbers : (by n : ℕ) (fs : List Open) → numbers (noted by n fs) �
 noted_numbers by n [] = refl
 noted_numbers by n (f ∷ fs) = go (nat_eq f.no by) ∙ ap (λ l. f.no ∷ l) (noted_numbers by n fs)
   where
-    go : (t : Bool) → ((cond t (record f { cut = f.cut ++ n ∷ [] }) f).no ∷ numbers (noted by n fs)) ≡ f.no ∷ numbers (noted by n fs)
+    go : (t : Bool) → ((cond t (record f { cut = f.cut ++ n ∷ [] }) f).no ∷ numbers (noted by n fs)) ≡ f.no ∷ numbers
+        (noted by n fs)
     go true = refl
     go false = refl
 
@@ -93,13 +99,17 @@ awaits_numbers n [] = refl
 awaits_numbers n (f ∷ fs) = ap (λ l. f.no ∷ l) (awaits_numbers n fs)
 
 in_without : (n : ℕ) (fs : List Open) (m : ℕ) → IsIn m (numbers (without_function n fs)) → IsIn m (numbers fs)
-in_without n fs m h = let r = in_open (without_function n fs) m h in subst (λ k. IsIn k (numbers fs)) r.2 (open_in fs r.0 (has_without_function n fs r.0 r.1).0)
+in_without n fs m h = let r = in_open (without_function n fs) m h in
+    subst (λ k. IsIn k (numbers fs)) r.2 (open_in fs r.0 (has_without_function n fs r.0 r.1).0)
 
-without_in : (n : ℕ) (fs : List Open) (m : ℕ) → (m ≡ n → ⊥) → IsIn m (numbers fs) → IsIn m (numbers (without_function n fs))
+without_in : (n : ℕ) (fs : List Open) (m : ℕ) → (m ≡ n → ⊥) → IsIn m (numbers fs) →
+    IsIn m (numbers (without_function n fs))
 without_in n [] m ne h = h
 without_in n (f ∷ fs) m ne h = go (nat_eq f.no n) refl h (without_in n fs m ne)
   where
-    go : (t : Bool) → nat_eq f.no n ≡ t → IsIn m (f.no ∷ numbers fs) → (IsIn m (numbers fs) → IsIn m (numbers (without_function n fs))) → IsIn m (numbers (cond t (without_function n fs) (f ∷ without_function n fs)))
+    go : (t : Bool) → nat_eq f.no n ≡ t → IsIn m (f.no ∷ numbers fs) →
+        (IsIn m (numbers fs) → IsIn m (numbers (without_function n fs))) →
+        IsIn m (numbers (cond t (without_function n fs) (f ∷ without_function n fs)))
     go true e (inl h) rec = absurd (ne (sym h ∙ eqb-true f.no n e))
     go true e (inr h) rec = rec h
     go false e (inl h) rec = inl h
@@ -109,21 +119,24 @@ pub ascending_without : (n : ℕ) (fs : List Open) → Ascending (numbers fs) �
 ascending_without n [] h = tt
 ascending_without n (f ∷ fs) h = go (nat_eq f.no n) (ascending_without n fs h.1)
   where
-    go : (t : Bool) → Ascending (numbers (without_function n fs)) → Ascending (numbers (cond t (without_function n fs) (f ∷ without_function n fs)))
+    go : (t : Bool) → Ascending (numbers (without_function n fs)) →
+        Ascending (numbers (cond t (without_function n fs) (f ∷ without_function n fs)))
     go true rec = rec
     go false rec = (λ m i. h.0 m (in_without n fs m i), rec)
 
 in_with : (p : Open) (fs : List Open) (m : ℕ) → IsIn m (numbers (with_function p fs)) → IsIn m (numbers fs) ⊎ (p.no ≡ m)
 in_with p fs m h =
     let r = in_open (with_function p fs) m h in
-    ⊎_elim (λ (k : HasOpen fs r.0). inl (subst (λ i. IsIn i (numbers fs)) r.2 (open_in fs r.0 k))) (λ (k : p ≡ r.0). inr (ap (λ (z : Open). z.no) k ∙ r.2))
+    ⊎_elim (λ (k : HasOpen fs r.0). inl (subst (λ i. IsIn i (numbers fs)) r.2 (open_in fs r.0 k)))
+    (λ (k : p ≡ r.0). inr (ap (λ (z : Open). z.no) k ∙ r.2))
     (has_with_function p fs r.0 r.1)
 
 with_in : (p : Open) (fs : List Open) (m : ℕ) → IsIn m (numbers fs) → IsIn m (numbers (with_function p fs))
 with_in p [] m h = absurd h
 with_in p (f ∷ fs) m h = go (nat_lt p.no f.no) h (with_in p fs m)
   where
-    go : (t : Bool) → IsIn m (f.no ∷ numbers fs) → (IsIn m (numbers fs) → IsIn m (numbers (with_function p fs))) → IsIn m (numbers (cond t (p ∷ f ∷ fs) (f ∷ with_function p fs)))
+    go : (t : Bool) → IsIn m (f.no ∷ numbers fs) → (IsIn m (numbers fs) → IsIn m (numbers (with_function p fs))) →
+        IsIn m (numbers (cond t (p ∷ f ∷ fs) (f ∷ with_function p fs)))
     go true h rec = inr h
     go false (inl h) rec = inl h
     go false (inr h) rec = inr (rec h)
@@ -132,23 +145,29 @@ with_in_itself : (p : Open) (fs : List Open) → IsIn p.no (numbers (with_functi
 with_in_itself p [] = inl refl
 with_in_itself p (f ∷ fs) = go (nat_lt p.no f.no) (with_in_itself p fs)
   where
-    go : (t : Bool) → IsIn p.no (numbers (with_function p fs)) → IsIn p.no (numbers (cond t (p ∷ f ∷ fs) (f ∷ with_function p fs)))
+    go : (t : Bool) → IsIn p.no (numbers (with_function p fs)) →
+        IsIn p.no (numbers (cond t (p ∷ f ∷ fs) (f ∷ with_function p fs)))
     go true rec = inl refl
     go false rec = inr rec
 
-pub ascending_with : (p : Open) (fs : List Open) → (IsIn p.no (numbers fs) → ⊥) → Ascending (numbers fs) → Ascending (numbers (with_function p fs))
+pub ascending_with : (p : Open) (fs : List Open) → (IsIn p.no (numbers fs) → ⊥) → Ascending (numbers fs) →
+    Ascending (numbers (with_function p fs))
 ascending_with p [] new h = (λ m i. absurd i, tt)
 ascending_with p (f ∷ fs) new h = go (nat_lt p.no f.no) refl (ascending_with p fs (λ i. new (inr i)) h.1)
   where
-    go : (t : Bool) → nat_lt p.no f.no ≡ t → Ascending (numbers (with_function p fs)) → Ascending (numbers (cond t (p ∷ f ∷ fs) (f ∷ with_function p fs)))
+    go : (t : Bool) → nat_lt p.no f.no ≡ t → Ascending (numbers (with_function p fs)) →
+        Ascending (numbers (cond t (p ∷ f ∷ fs) (f ∷ with_function p fs)))
     go true e rec = (
-      λ m i. let a = ltb-true p.no f.no e in ⊎_elim (λ (k : f.no ≡ m). omega (arith, a, k)) (λ (k : IsIn m (numbers fs)). let b = h.0 m k in omega (arith, a, b)) i,
+      λ m i. let a =
+          ltb-true p.no f.no e in ⊎_elim (λ (k : f.no ≡ m). omega (arith, a, k))
+          (λ (k : IsIn m (numbers fs)). let b = h.0 m k in omega (arith, a, b)) i,
       h,
     )
     go false e rec = (
       λ m i. ⊎_elim (h.0 m)
           (λ (k : p.no ≡ m). let a = ltb-false p.no f.no e in
-          ⊎_elim (λ (z : f.no ≡ p.no). absurd (new (inl z))) (λ (z : f.no ≡ p.no → ⊥). below f.no p.no m a z k) (cases_eq f.no p.no))
+          ⊎_elim (λ (z : f.no ≡ p.no). absurd (new (inl z))) (λ (z : f.no ≡ p.no → ⊥). below f.no p.no m a z k)
+          (cases_eq f.no p.no))
           (in_with p fs m i),
       rec,
     )
@@ -159,7 +178,8 @@ ascending_with p (f ∷ fs) new h = go (nat_lt p.no f.no) refl (ascending_with p
 -- What an event does to works, commands, functions and stops
 
 abbrev pub TasksFrom : List Task → List Task → Type 0
-TasksFrom before now = (x : Task) → Has now x → (y : Task) × Has before y × (y.no ≡ x.no) × (arrival_for y ≡ arrival_for x)
+TasksFrom before now =
+    (x : Task) → Has now x → (y : Task) × Has before y × (y.no ≡ x.no) × (arrival_for y ≡ arrival_for x)
 
 pub record FunctionsFrom (before now : List Open) : Type 0 where
   pub from : (p : Open) → HasOpen now p → (q : Open) × HasOpen before q × (q.no ≡ p.no) × (q.ask ≡ p.ask)
@@ -167,7 +187,8 @@ pub record FunctionsFrom (before now : List Open) : Type 0 where
   pub stay : (n : ℕ) → IsIn n (numbers before) → IsIn n (numbers now)
 
 abbrev pub StopsFrom : State → List Message → Type 0
-StopsFrom s now = (m : Message) → HasMessage now m → is_stop m.kind ≡ true → HasMessage s.to_b m ⊎ ((y : Task) × Has s.tasks y × (y.no ≡ m.by))
+StopsFrom s now = (m : Message) → HasMessage now m → is_stop m.kind ≡ true →
+    HasMessage s.to_b m ⊎ ((y : Task) × Has s.tasks y × (y.no ≡ m.by))
 
 -- no work comes or enters, and no function opens
 pub record Goes (e : Event) (s t : State) : Type 0 where
@@ -197,12 +218,14 @@ functions_same fs gs e = record {
   stay = λ n h. subst (λ l. IsIn n (numbers l)) (sym e) h;
 }
 
-noted_from : (by n : ℕ) (fs : List Open) (p : Open) → HasOpen (noted by n fs) p → (q : Open) × HasOpen fs q × (q.no ≡ p.no) × (q.ask ≡ p.ask)
+noted_from : (by n : ℕ) (fs : List Open) (p : Open) → HasOpen (noted by n fs) p →
+    (q : Open) × HasOpen fs q × (q.no ≡ p.no) × (q.ask ≡ p.ask)
 noted_from by n [] p h = absurd h
 noted_from by n (f ∷ fs) p (inr h) = let r = noted_from by n fs p h in (r.0, inr r.1, r.2, r.3)
 noted_from by n (f ∷ fs) p (inl h) = go (nat_eq f.no by) h
   where
-    go : (t : Bool) → cond t (record f { cut = f.cut ++ n ∷ [] }) f ≡ p → (q : Open) × HasOpen (f ∷ fs) q × (q.no ≡ p.no) × (q.ask ≡ p.ask)
+    go : (t : Bool) → cond t (record f { cut = f.cut ++ n ∷ [] }) f ≡ p →
+        (q : Open) × HasOpen (f ∷ fs) q × (q.no ≡ p.no) × (q.ask ≡ p.ask)
     go true h = (f, inl refl, ap (λ (z : Open). z.no) h, ap (λ (z : Open). z.ask) h)
     go false h = (f, inl refl, ap (λ (z : Open). z.no) h, ap (λ (z : Open). z.ask) h)
 
@@ -216,48 +239,68 @@ functions_noted by n fs gs e = record {
     same : numbers gs ≡ numbers fs
     same = ap numbers e ∙ noted_numbers by n fs
 
-awaits_from : (n : ℕ) (fs : List Open) (p : Open) → HasOpen (map (awaits_no_more n) fs) p → (q : Open) × HasOpen fs q × (q.no ≡ p.no) × (q.ask ≡ p.ask)
+awaits_from : (n : ℕ) (fs : List Open) (p : Open) → HasOpen (map (awaits_no_more n) fs) p →
+    (q : Open) × HasOpen fs q × (q.no ≡ p.no) × (q.ask ≡ p.ask)
 awaits_from n [] p h = absurd h
 awaits_from n (f ∷ fs) p (inr h) = let r = awaits_from n fs p h in (r.0, inr r.1, r.2, r.3)
 awaits_from n (f ∷ fs) p (inl h) = (f, inl refl, ap (λ (z : Open). z.no) h, ap (λ (z : Open). z.ask) h)
 
-goes : (e : Event) (s t : State) → t.arrivals ≡ s.arrivals → TasksFrom s.tasks t.tasks → FunctionsFrom s.functions t.functions → StopsFrom s t.to_b → Goes e s t
-goes e s t a b c d = record { arrivals = a; tasks = b; from = c.from; sorted = c.sorted; stay = λ n h. inr (c.stay n h); stops = d }
+goes : (e : Event) (s t : State) → t.arrivals ≡ s.arrivals → TasksFrom s.tasks t.tasks →
+    FunctionsFrom s.functions t.functions → StopsFrom s t.to_b → Goes e s t
+goes e s t a b c d = record {
+  arrivals = a;
+  tasks = b;
+  from = c.from;
+  sorted = c.sorted;
+  stay = λ n h. inr
+      (c.stay n h);
+  stops = d;
+}
 
 stops_same : (s : State) (ms : List Message) → ms ≡ s.to_b → StopsFrom s ms
 stops_same s ms e m h i = inl (subst (λ l. HasMessage l m) e h)
 
-goes_quietly : (e : Event) (s t : State) → t.arrivals ≡ s.arrivals → TasksFrom s.tasks t.tasks → t.functions ≡ s.functions → t.to_b ≡ s.to_b → Goes e s t
+goes_quietly : (e : Event) (s t : State) → t.arrivals ≡ s.arrivals → TasksFrom s.tasks t.tasks →
+    t.functions ≡ s.functions → t.to_b ≡ s.to_b → Goes e s t
 goes_quietly e s t a b c d = goes e s t a b (functions_same s.functions t.functions c) (stops_same s t.to_b d)
 
 -- messages to B
-goes_sent : (e : Event) (s t : State) (ks : List Message) → ((m : Message) → HasMessage ks m → is_stop m.kind ≡ true → (y : Task) × Has s.tasks y × (y.no ≡ m.by)) → Goes e s t → Goes e s (record t { to_b = t.to_b ++ ks })
+goes_sent : (e : Event) (s t : State) (ks : List Message) →
+    ((m : Message) → HasMessage ks m → is_stop m.kind ≡ true → (y : Task) × Has s.tasks y × (y.no ≡ m.by)) →
+    Goes e s t → Goes e s (record t { to_b = t.to_b ++ ks })
 goes_sent e s t ks f h = record {
   arrivals = h.arrivals;
   tasks = h.tasks;
   from = h.from;
   sorted = h.sorted;
   stay = h.stay;
-  stops = λ m i is. ⊎_elim (λ (k : HasMessage t.to_b m). h.stops m k is) (λ (k : HasMessage ks m). inr (f m k is)) (message_append t.to_b ks m i);
+  stops = λ m i is. ⊎_elim (λ (k : HasMessage t.to_b m). h.stops m k is) (λ (k : HasMessage ks m). inr (f m k is))
+      (message_append t.to_b ks m i);
 }
 
-goes_told : (e : Event) (s t : State) (k : Message) → is_stop k.kind ≡ false → Goes e s t → Goes e s (record t { to_b = t.to_b ++ k ∷ [] })
+goes_told : (e : Event) (s t : State) (k : Message) → is_stop k.kind ≡ false → Goes e s t →
+    Goes e s (record t { to_b = t.to_b ++ k ∷ [] })
 goes_told e s t k no_stop h = goes_sent e s t (k ∷ []) (λ m i is. ⊎_elim
     (λ (z : k ≡ m). absurd (both_ways (is_stop m.kind) (ap (λ (q : Message). is_stop q.kind) (sym z) ∙ no_stop) is))
     (λ (z : ⊥). absurd z) i) h
 
-goes_answered : (e : Event) (k : Kind2) (n : ℕ) (s t : State) → is_stop k ≡ false → Goes e s t → Goes e s (answered k n t)
+goes_answered : (e : Event) (k : Kind2) (n : ℕ) (s t : State) → is_stop k ≡ false → Goes e s t →
+    Goes e s (answered k n t)
 goes_answered e k n s t no_stop h = go (came_remote (arrival_of n t))
   where
     go : (b : Bool) → Goes e s (to_b_if b (message k n) t)
     go true = goes_told e s t (message k n) no_stop h
     go false = h
 
-with_stops : (told_so : Bool) (by : ℕ) (cleared : List Bool) (ts : List Task) (m : Message) → HasMessage (stops_with told_so by cleared ts) m → m.by ≡ by
+with_stops : (told_so : Bool) (by : ℕ) (cleared : List Bool) (ts : List Task) (m : Message) →
+    HasMessage (stops_with told_so by cleared ts) m → m.by ≡ by
 with_stops told_so by cleared [] m h = absurd h
-with_stops told_so by cleared (x ∷ ts) m h = go (is_cleared cleared x && is_remote x.node) h (with_stops told_so by cleared ts m)
+with_stops told_so by cleared (x ∷ ts) m h =
+    go (is_cleared cleared x && is_remote x.node) h (with_stops told_so by cleared ts m)
   where
-    go : (t : Bool) → HasMessage (cond t (stop x.no by told_so ∷ stops_with told_so by cleared ts) (stops_with told_so by cleared ts)) m → (HasMessage (stops_with told_so by cleared ts) m → m.by ≡ by) → m.by ≡ by
+    go : (t : Bool) → HasMessage
+        (cond t (stop x.no by told_so ∷ stops_with told_so by cleared ts) (stops_with told_so by cleared ts)) m →
+        (HasMessage (stops_with told_so by cleared ts) m → m.by ≡ by) → m.by ≡ by
     go true (inl h) rec = ap (λ (z : Message). z.by) (sym h)
     go true (inr h) rec = rec h
     go false h rec = rec h
@@ -292,21 +335,29 @@ goes_moved e n count s = go (task_of n s.tasks) refl
 abbrev left_by : Task → State → State
 left_by x s =
     let execution = execute (disk_of s) x.command in
-    answered kind.Reply x.no (record s { control = execution.disk.control; blocks = execution.disk.blocks; tasks = without_task x.no s.tasks })
+    answered kind.Reply x.no
+    (record s { control = execution.disk.control; blocks = execution.disk.blocks; tasks = without_task x.no s.tasks })
 
 goes_ended : (e : Event) (n : ℕ) (s : State) → Goes e s (after_ended (task_of n s.tasks) s)
 goes_ended e n s = go (task_of n s.tasks) refl
   where
     gone : Task → State
-    gone x = record s { control = (execute (disk_of s) x.command).disk.control; blocks = (execute (disk_of s) x.command).disk.blocks; tasks = without_task x.no s.tasks }
+    gone x = record s {
+      control = (execute (disk_of s) x.command).disk.control;
+      blocks = (execute (disk_of s) x.command).disk.blocks;
+      tasks = without_task x.no s.tasks;
+    }
 
     leaves : (x : Task) → Goes e s (answered kind.Reply x.no (record s { tasks = without_task x.no s.tasks }))
     leaves x = goes_answered e kind.Reply x.no s _ refl (goes_quietly e s _ refl (tasks_without x.no s.tasks) refl refl)
 
     at : (x : Task) (stage : Stage) → Has s.tasks x → Goes e s (ended_at stage x s)
-    at x Waiting hx = goes_sent e s (left_by x s) (stops_with (tells_aborts s.control) x.no (execute (disk_of s) x.command).cleared (left_by x s).tasks)
+    at x Waiting hx =
+        goes_sent e s (left_by x s)
+        (stops_with (tells_aborts s.control) x.no (execute (disk_of s) x.command).cleared (left_by x s).tasks)
         (λ m i is. (x, hx, sym (with_stops (tells_aborts s.control) x.no (execute (disk_of s) x.command).cleared (left_by x s).tasks m i)))
-        (goes_answered e kind.Reply x.no s (gone x) refl (goes_quietly e s (gone x) refl (tasks_without x.no s.tasks) refl refl))
+        (goes_answered e kind.Reply x.no s (gone x) refl
+        (goes_quietly e s (gone x) refl (tasks_without x.no s.tasks) refl refl))
     at x (Here d g) hx = leaves x
     at x Granted hx = leaves x
     at x (There d g) hx = goes_quietly e s _ refl (tasks_staged x Over s.tasks hx) refl refl
@@ -322,14 +373,19 @@ goes_cut e why n s = go why (task_of n s.tasks) refl
     leaves : (x : Task) → Goes e s (answered kind.Reply x.no (record s { tasks = without_task x.no s.tasks }))
     leaves x = goes_answered e kind.Reply x.no s _ refl (goes_quietly e s _ refl (tasks_without x.no s.tasks) refl refl)
 
-    here : (by : ℕ) (x : Task) → Goes e s (record s { functions = noted by x.no s.functions; tasks = without_task x.no s.tasks })
-    here by x = goes e s _ refl (tasks_without x.no s.tasks) (functions_noted by x.no s.functions _ refl) (stops_same s s.to_b refl)
+    here : (by : ℕ) (x : Task) → Goes e s
+        (record s { functions = noted by x.no s.functions; tasks = without_task x.no s.tasks })
+    here by x =
+        goes e s _ refl (tasks_without x.no s.tasks) (functions_noted by x.no s.functions _ refl)
+        (stops_same s s.to_b refl)
 
     at : (why : Why) (x : Task) (stage : Stage) → Has s.tasks x → Goes e s (cut_at why stage x s)
     at (By by) x Waiting hx = here by x
     at (By by) x (Here d g) hx = here by x
     at (By by) x Granted hx = here by x
-    at (By by) x (There d g) hx = goes e s _ refl (tasks_staged x Over s.tasks hx) (functions_noted by x.no s.functions _ refl) (stops_same s s.to_b refl)
+    at (By by) x (There d g) hx =
+        goes e s _ refl (tasks_staged x Over s.tasks hx) (functions_noted by x.no s.functions _ refl)
+        (stops_same s s.to_b refl)
     at (By by) x Over hx = here by x
     at Medium x Waiting hx = leaves x
     at Medium x (Here d g) hx = leaves x
@@ -345,11 +401,13 @@ function_named : (n : ℕ) (fs : List Open) (p : Open) → function_of n fs ≡ 
 function_named n [] p e = absurd (cc)
 function_named n (f ∷ fs) p e = go (nat_eq f.no n) refl e (function_named n fs p)
   where
-    go : (t : Bool) → nat_eq f.no n ≡ t → cond t (Some f) (function_of n fs) ≡ Some p → (function_of n fs ≡ Some p → p.no ≡ n) → p.no ≡ n
+    go : (t : Bool) → nat_eq f.no n ≡ t → cond t (Some f) (function_of n fs) ≡ Some p →
+        (function_of n fs ≡ Some p → p.no ≡ n) → p.no ≡ n
     go true k e rec = let same : f ≡ p = cc in ap (λ (z : Open). z.no) (sym same) ∙ eqb-true f.no n k
     go false k e rec = rec e
 
-goes_closed : (e : Event) (n : ℕ) (s : State) → ((m : ℕ) → m ≡ n → is_entry m e ≡ true) → Goes e s (answered kind.Response n (closed (function_of n s.functions) s))
+goes_closed : (e : Event) (n : ℕ) (s : State) → ((m : ℕ) → m ≡ n → is_entry m e ≡ true) →
+    Goes e s (answered kind.Response n (closed (function_of n s.functions) s))
 goes_closed e n s entry = goes_answered e kind.Response n s _ refl (go (function_of n s.functions) refl)
   where
     go : (found : Option Open) → function_of n s.functions ≡ found → Goes e s (closed found s)
@@ -359,11 +417,14 @@ goes_closed e n s entry = goes_answered e kind.Response n s _ refl (go (function
       tasks = tasks_same s.tasks s.tasks refl;
       from = λ q h. (q, (has_without_function p.no s.functions q h).0, refl, refl);
       sorted = ascending_without p.no s.functions;
-      stay = λ m h. ⊎_elim (λ (k : m ≡ n). inl (entry m k)) (λ (k : m ≡ n → ⊥). inr (without_in p.no s.functions m (λ i. k (i ∙ function_named n s.functions p f)) h)) (cases_eq m n);
+      stay = λ m h. ⊎_elim (λ (k : m ≡ n). inl (entry m k))
+          (λ (k : m ≡ n → ⊥). inr (without_in p.no s.functions m (λ i. k (i ∙ function_named n s.functions p f)) h))
+          (cases_eq m n);
       stops = stops_same s s.to_b refl;
     }
 
-goes_delivered : (e : Event) (node : Node) (k : Kind2) (n : ℕ) (s : State) → Goes e s (after s (told (event.Deliver node k n)))
+goes_delivered : (e : Event) (node : Node) (k : Kind2) (n : ℕ) (s : State) →
+    Goes e s (after s (told (event.Deliver node k n)))
 unfolding after
 goes_delivered e A k n s = go k
   where
@@ -372,7 +433,11 @@ goes_delivered e A k n s = go k
 
     over : Goes e s (gone_at_b n (record s { to_a = drop 1 s.to_a }))
     over = goes e s _ refl (tasks_without n s.tasks)
-        (record { from = awaits_from n s.functions; sorted = λ h. subst Ascending (sym (awaits_numbers n s.functions)) h; stay = λ m h. subst (IsIn m) (sym (awaits_numbers n s.functions)) h })
+        (record {
+          from = awaits_from n s.functions;
+          sorted = λ h. subst Ascending (sym (awaits_numbers n s.functions)) h;
+          stay = λ m h. subst (IsIn m) (sym (awaits_numbers n s.functions)) h;
+        })
         (stops_same s s.to_b refl)
 
     go : (k : Kind2) → Goes e s (after s (told (event.Deliver A k n)))
@@ -392,14 +457,17 @@ goes_delivered e B k n s = go k
     still : Goes e s (record s { to_b = drop 1 s.to_b })
     still = goes e s _ refl (tasks_same s.tasks s.tasks refl) (functions_same s.functions s.functions refl) fewer
 
-    begins : (x : Task) (stage : Stage) → Has s.tasks x → Goes e s (begun_at_b stage x (record s { to_b = drop 1 s.to_b }))
+    begins : (x : Task) (stage : Stage) → Has s.tasks x →
+        Goes e s (begun_at_b stage x (record s { to_b = drop 1 s.to_b }))
     begins x Waiting hx = still
     begins x (Here d g) hx = still
-    begins x Granted hx = goes e s _ refl (tasks_staged x (There 0 []) s.tasks hx) (functions_same s.functions s.functions refl) fewer
+    begins x Granted hx =
+        goes e s _ refl (tasks_staged x (There 0 []) s.tasks hx) (functions_same s.functions s.functions refl) fewer
     begins x (There d g) hx = still
     begins x Over hx = still
 
-    granted : (found : Option Task) → task_of n s.tasks ≡ found → Goes e s (after_grant found (record s { to_b = drop 1 s.to_b }))
+    granted : (found : Option Task) → task_of n s.tasks ≡ found →
+        Goes e s (after_grant found (record s { to_b = drop 1 s.to_b }))
     granted None f = still
     granted (Some x) f = begins x x.stage (has_found n s.tasks x f).0
 
@@ -436,7 +504,8 @@ goes_event s l plain = go l.event plain
     go (event.Enter number) p = absurd (cc)
     go (event.Asked number) p = absurd (cc)
     go (event.Deliver node k number) p = goes_delivered (event.Deliver node k number) node k number s
-    go (event.Turned number) p = goes_answered _ kind.Reply number s s refl (goes_quietly _ s s refl (tasks_same s.tasks s.tasks refl) refl refl)
+    go (event.Turned number) p =
+        goes_answered _ kind.Reply number s s refl (goes_quietly _ s s refl (tasks_same s.tasks s.tasks refl) refl refl)
     go (event.Begun number) p = goes_staged _ (Here 0 []) number s
     go (event.Granted number) p = goes_told _ s _ (message kind.Grant number) refl (goes_staged _ Granted number s)
     go (event.Moved number count) p = goes_moved _ number count s
@@ -447,30 +516,40 @@ goes_event s l plain = go l.event plain
 -- What holds between two events
 
 -- the events before the first that passes a test stay
-until_more : (test : Event → Bool) (es : List Logged) (e : Logged) → has test es ≡ true → until test (es ++ e ∷ []) ≡ until test es
+until_more : (test : Event → Bool) (es : List Logged) (e : Logged) → has test es ≡ true →
+    until test (es ++ e ∷ []) ≡ until test es
 until_more test [] e h = absurd (cc)
 until_more test (x ∷ es) e h = go (test x.event) h (until_more test es e)
   where
-    go : (t : Bool) → (t || has test es) ≡ true → (has test es ≡ true → until test (es ++ e ∷ []) ≡ until test es) → cond t [] (x ∷ until test (es ++ e ∷ [])) ≡ cond t [] (x ∷ until test es)
+    go : (t : Bool) → (t || has test es) ≡ true → (has test es ≡ true → until test (es ++ e ∷ []) ≡ until test es) →
+        cond t [] (x ∷ until test (es ++ e ∷ [])) ≡ cond t [] (x ∷ until test es)
     go true h rec = refl
     go false h rec = ap (λ l. x ∷ l) (rec h)
 
-pub until_now : (test : Event → Bool) (es : List Logged) (e : Logged) → has test es ≡ false → test e.event ≡ true → until test (es ++ e ∷ []) ≡ es
+pub until_now : (test : Event → Bool) (es : List Logged) (e : Logged) → has test es ≡ false → test e.event ≡ true →
+    until test (es ++ e ∷ []) ≡ es
 until_now test [] e h now = ap (λ t. cond t [] (e ∷ [])) now
 until_now test (x ∷ es) e h now = go (test x.event) h (until_now test es e)
   where
-    go : (t : Bool) → (t || has test es) ≡ false → (has test es ≡ false → test e.event ≡ true → until test (es ++ e ∷ []) ≡ es) → cond t [] (x ∷ until test (es ++ e ∷ [])) ≡ x ∷ es
+    go : (t : Bool) → (t || has test es) ≡ false →
+        (has test es ≡ false → test e.event ≡ true → until test (es ++ e ∷ []) ≡ es) →
+        cond t [] (x ∷ until test (es ++ e ∷ [])) ≡ x ∷ es
     go true h rec = absurd (cc)
     go false h rec = ap (λ l. x ∷ l) (rec h now)
 
-pub told_stays : (o : Opening) (by : ℕ) (journal : List Logged) (l : Logged) → has (is_asked by) journal ≡ true → told_aborts_at o by (journal ++ l ∷ []) ≡ told_aborts_at o by journal
-told_stays o by journal l h = ap (λ (es : List Logged). tells_aborts (serial_disk o es).control) (until_more (is_asked by) journal l h)
+pub told_stays : (o : Opening) (by : ℕ) (journal : List Logged) (l : Logged) → has (is_asked by) journal ≡ true →
+    told_aborts_at o by (journal ++ l ∷ []) ≡ told_aborts_at o by journal
+told_stays o by journal l h =
+    ap (λ (es : List Logged). tells_aborts (serial_disk o es).control) (until_more (is_asked by) journal l h)
 
-pub told_now : (o : Opening) (by : ℕ) (journal : List Logged) (l : Logged) → has (is_asked by) journal ≡ false → is_asked by l.event ≡ true → told_aborts_at o by (journal ++ l ∷ []) ≡ tells_aborts (serial_disk o journal).control
-told_now o by journal l new now = ap (λ (es : List Logged). tells_aborts (serial_disk o es).control) (until_now (is_asked by) journal l new now)
+pub told_now : (o : Opening) (by : ℕ) (journal : List Logged) (l : Logged) → has (is_asked by) journal ≡ false →
+    is_asked by l.event ≡ true → told_aborts_at o by (journal ++ l ∷ []) ≡ tells_aborts (serial_disk o journal).control
+told_now o by journal l new now =
+    ap (λ (es : List Logged). tells_aborts (serial_disk o es).control) (until_now (is_asked by) journal l new now)
 
 abbrev pub IsCommandNo : ℕ → List Arrival → Type 0
-IsCommandNo n works = (node : Node) × (c : Command) × (numbered n works ≡ Some (record { node = node; work = work.Cmd c }))
+IsCommandNo n works =
+    (node : Node) × (c : Command) × (numbered n works ≡ Some (record { node = node; work = work.Cmd c }))
 
 -- a stop by a function says whether the initiator is told, as TAS says where the function was taken up
 pub record Telling (o : Opening) (journal : List Logged) (works : List Arrival) (m : Message) : Type 0 where
@@ -487,10 +566,14 @@ pub record Steady (o : Opening) (s : State) (journal : List Logged) : Type 0 whe
   pub at : s ≡ replay o journal
   pub works : works_of s ≡ works_in journal
   pub known : (x : Task) → Has s.tasks x → numbered x.no s.arrivals ≡ Some (arrival_for x)
-  pub asked : (p : Open) → HasOpen s.functions p → (node : Node) × (numbered p.no s.arrivals ≡ Some (record { node = node; work = work.Ask p.ask })) × (has (is_asked p.no) journal ≡ true)
-  pub opened : (n : ℕ) → has (is_asked n) journal ≡ true → (has (is_entry n) journal ≡ true) ⊎ IsIn n (numbers s.functions)
+  pub asked : (p : Open) → HasOpen s.functions p →
+      (node : Node) × (numbered p.no s.arrivals ≡ Some (record { node = node; work = work.Ask p.ask }))
+      × (has (is_asked p.no) journal ≡ true)
+  pub opened : (n : ℕ) → has (is_asked n) journal ≡ true →
+      (has (is_entry n) journal ≡ true) ⊎ IsIn n (numbers s.functions)
   pub sorted : Ascending (numbers s.functions)
-  pub stops : (m : Message) → HasMessage s.to_b m → is_stop m.kind ≡ true → IsCommandNo m.by s.arrivals ⊎ Telling o journal s.arrivals m
+  pub stops : (m : Message) → HasMessage s.to_b m → is_stop m.kind ≡ true →
+      IsCommandNo m.by s.arrivals ⊎ Telling o journal s.arrivals m
 
 -- after an event by which nothing comes, enters or opens
 unasked : (e : Event) → is_plain e ≡ true → (n : ℕ) → is_asked n e ≡ false
@@ -507,15 +590,19 @@ unasked (event.Cut number puts why told_so) p n = refl
 unasked (event.Closed number outcome) p n = refl
 
 -- what is known of numbers stays with works that came before
-opened_stays : (journal : List Logged) (l : Logged) (fs gs : List Open) → ((n : ℕ) → is_asked n l.event ≡ false) → ((n : ℕ) → IsIn n (numbers fs) → (is_entry n l.event ≡ true) ⊎ IsIn n (numbers gs)) →
+opened_stays : (journal : List Logged) (l : Logged) (fs gs : List Open) → ((n : ℕ) → is_asked n l.event ≡ false) →
+    ((n : ℕ) → IsIn n (numbers fs) → (is_entry n l.event ≡ true) ⊎ IsIn n (numbers gs)) →
     ((n : ℕ) → has (is_asked n) journal ≡ true → (has (is_entry n) journal ≡ true) ⊎ IsIn n (numbers fs)) →
-    (n : ℕ) → has (is_asked n) (journal ++ l ∷ []) ≡ true → (has (is_entry n) (journal ++ l ∷ []) ≡ true) ⊎ IsIn n (numbers gs)
+    (n : ℕ) → has (is_asked n) (journal ++ l ∷ []) ≡ true →
+    (has (is_entry n) (journal ++ l ∷ []) ≡ true) ⊎ IsIn n (numbers gs)
 opened_stays journal l fs gs none stay h n e = ⊎_elim
     (λ (k : has (is_entry n) journal ≡ true). inl (has_stays (is_entry n) journal l k))
-    (λ (k : IsIn n (numbers fs)). ⊎_elim (λ (i : is_entry n l.event ≡ true). inl (has_now (is_entry n) journal l i)) inr (stay n k))
+    (λ (k : IsIn n (numbers fs)). ⊎_elim (λ (i : is_entry n l.event ≡ true). inl (has_now (is_entry n) journal l i)) inr
+    (stay n k))
     (h n (sym (has_same (is_asked n) journal l (none n)) ∙ e))
 
-telling_stays : (o : Opening) (journal : List Logged) (l : Logged) (works now : List Arrival) (m : Message) → ((n : ℕ) (a : Arrival) → numbered n works ≡ Some a → numbered n now ≡ Some a) →
+telling_stays : (o : Opening) (journal : List Logged) (l : Logged) (works now : List Arrival) (m : Message) →
+    ((n : ℕ) (a : Arrival) → numbered n works ≡ Some a → numbered n now ≡ Some a) →
     IsCommandNo m.by works ⊎ Telling o journal works m → IsCommandNo m.by now ⊎ Telling o (journal ++ l ∷ []) now m
 telling_stays o journal l works now m old (inl h) = inl (h.0, h.1, old m.by _ h.2)
 telling_stays o journal l works now m old (inr h) = inr (record {
@@ -526,24 +613,34 @@ telling_stays o journal l works now m old (inr h) = inr (record {
   by = old m.by _ h.by;
   no = old m.no _ h.no;
   asking = has_stays (is_asked m.by) journal l h.asking;
-  told = h.told ∙ ap (λ b. b && not (is_same_nexus h.ask.nexus h.command.nexus)) (sym (told_stays o m.by journal l h.asking));
+  told = h.told ∙ ap (λ b. b && not (is_same_nexus h.ask.nexus h.command.nexus))
+      (sym (told_stays o m.by journal l h.asking));
 })
 
-pub steady_event : (o : Opening) (s : State) (journal : List Logged) (l : Logged) → l.work ≡ None → is_plain l.event ≡ true → Steady o s journal → Steady o (after s l) (journal ++ l ∷ [])
+pub steady_event : (o : Opening) (s : State) (journal : List Logged) (l : Logged) → l.work ≡ None →
+    is_plain l.event ≡ true → Steady o s journal → Steady o (after s l) (journal ++ l ∷ [])
 steady_event o s journal l no_work plain h = record {
   at = replayed o s journal l h.at;
   works = ap (map (λ (a : Arrival). a.work)) g.arrivals ∙ h.works ∙ sym (works_in-none journal l no_work);
-  known = λ x hx. let y = g.tasks x hx in ap (numbered x.no) g.arrivals ∙ ap (λ n. numbered n s.arrivals) (sym y.2) ∙ h.known y.0 y.1 ∙ ap Some y.3;
+  known = λ x hx. let y = g.tasks x hx in ap (numbered x.no) g.arrivals ∙ ap (λ n. numbered n s.arrivals) (sym y.2)
+      ∙ h.known y.0 y.1 ∙ ap Some y.3;
   asked = λ p hp. let q = g.from p hp in let a = h.asked q.0 q.1 in (
     a.0,
-    ap (numbered p.no) g.arrivals ∙ ap (λ n. numbered n s.arrivals) (sym q.2) ∙ a.1 ∙ ap (λ z. Some (record { node = a.0; work = work.Ask z })) q.3,
+    ap (numbered p.no) g.arrivals ∙ ap (λ n. numbered n s.arrivals) (sym q.2) ∙ a.1 ∙ ap
+        (λ z. Some (record { node = a.0; work = work.Ask z })) q.3,
     subst (λ n. has (is_asked n) (journal ++ l ∷ []) ≡ true) q.2 (has_stays (is_asked q.0.no) journal l a.2),
   );
   opened = opened_stays journal l s.functions (after s l).functions (unasked l.event plain) g.stay h.opened;
   sorted = g.sorted h.sorted;
   stops = λ m i is. ⊎_elim
-      (λ (k : HasMessage s.to_b m). telling_stays o journal l s.arrivals (after s l).arrivals m (λ n a e. ap (numbered n) g.arrivals ∙ e) (h.stops m k is))
-      (λ (k : (y : Task) × Has s.tasks y × (y.no ≡ m.by)). inl (k.0.node, k.0.command, ap (numbered m.by) g.arrivals ∙ ap (λ n. numbered n s.arrivals) (sym k.2) ∙ h.known k.0 k.1))
+      (λ (k : HasMessage s.to_b m). telling_stays o journal l s.arrivals (after s l).arrivals m
+      (λ n a e. ap (numbered n) g.arrivals ∙ e) (h.stops m k is))
+      (λ (k : (y : Task) × Has s.tasks y × (y.no ≡ m.by)). inl (
+        k.0.node,
+        k.0.command,
+        ap (numbered m.by) g.arrivals ∙ ap (λ n. numbered n s.arrivals) (sym k.2)
+            ∙ h.known k.0 k.1,
+      ))
       (g.stops m i is);
 }
   where
@@ -554,7 +651,8 @@ pub arrivals_keep : (s : State) (l : Logged) → is_plain l.event ≡ true → (
 arrivals_keep s l plain = (goes_event s l plain).arrivals
 
 -- a message that comes leaves the control
-pub delivered_control : (node : Node) (k : Kind2) (n : ℕ) (s : State) → (after s (told (event.Deliver node k n))).control ≡ s.control
+pub delivered_control : (node : Node) (k : Kind2) (n : ℕ) (s : State) →
+    (after s (told (event.Deliver node k n))).control ≡ s.control
 unfolding after
 delivered_control A kind.Ask n s = refl
 delivered_control A kind.Function n s = refl
@@ -588,15 +686,19 @@ delivered_control B kind.Grant n s = go (task_of n s.tasks)
     go (Some x) = begins x x.stage
 
 -- a work comes
-pub steady_came : (o : Opening) (s : State) (journal : List Logged) (n : ℕ) (node : Node) (w : KeptWork) → Steady o s journal → Steady o (after s (arrived n node w)) (journal ++ arrived n node w ∷ [])
+pub steady_came : (o : Opening) (s : State) (journal : List Logged) (n : ℕ) (node : Node) (w : KeptWork) →
+    Steady o s journal → Steady o (after s (arrived n node w)) (journal ++ arrived n node w ∷ [])
 steady_came o s journal n node w h = subst (λ (t : State). Steady o t (journal ++ l ∷ [])) (sym state.1) (record {
   at = sym state.1 ∙ replayed o s journal l h.at;
-  works = map-append (λ (a : Arrival). a.work) s.arrivals (arrival ∷ []) ∙ ap (λ ws. ws ++ w ∷ []) h.works ∙ sym (works_in-more journal l (Some w) refl);
+  works = map-append (λ (a : Arrival). a.work) s.arrivals (arrival ∷ []) ∙ ap (λ ws. ws ++ w ∷ []) h.works ∙ sym
+      (works_in-more journal l (Some w) refl);
   known = λ x hx. numbered_front x.no s.arrivals arrival _ (h.known x hx);
-  asked = λ p hp. let a = h.asked p hp in (a.0, numbered_front p.no s.arrivals arrival _ a.1, has_stays (is_asked p.no) journal l a.2);
+  asked = λ p hp. let a = h.asked p hp in
+      (a.0, numbered_front p.no s.arrivals arrival _ a.1, has_stays (is_asked p.no) journal l a.2);
   opened = opened_stays journal l s.functions s.functions (λ m. refl) (λ m i. inr i) h.opened;
   sorted = h.sorted;
-  stops = λ m i is. telling_stays o journal l s.arrivals (s.arrivals ++ arrival ∷ []) m (λ k a e. numbered_front k s.arrivals arrival a e) (h.stops m i is);
+  stops = λ m i is. telling_stays o journal l s.arrivals (s.arrivals ++ arrival ∷ []) m
+      (λ k a e. numbered_front k s.arrivals arrival a e) (h.stops m i is);
 })
   where
     l : Logged
@@ -609,15 +711,21 @@ steady_came o s journal n node w h = subst (λ (t : State). Steady o t (journal 
     state = after_arrived n node w s
 
 -- a command enters
-pub after_entered : (n : ℕ) (node : Node) (c : Command) (s : State) → arrival_of n s ≡ Some (record { node = node; work = work.Cmd c }) → after s (told (event.Enter n)) ≡ record s { tasks = queued (new_task n node c) s.tasks }
+pub after_entered : (n : ℕ) (node : Node) (c : Command) (s : State) →
+    arrival_of n s ≡ Some (record { node = node; work = work.Cmd c }) →
+    after s (told (event.Enter n)) ≡ record s { tasks = queued (new_task n node c) s.tasks }
 unfolding after
 after_entered n node c s e = ap (λ a. after_enter n a s) e
 
-pub steady_entered : (o : Opening) (s : State) (journal : List Logged) (n : ℕ) (node : Node) (c : Command) → numbered n s.arrivals ≡ Some (record { node = node; work = work.Cmd c }) → Steady o s journal → Steady o (after s (told (event.Enter n))) (journal ++ told (event.Enter n) ∷ [])
+pub steady_entered : (o : Opening) (s : State) (journal : List Logged) (n : ℕ) (node : Node) (c : Command) →
+    numbered n s.arrivals ≡ Some (record { node = node; work = work.Cmd c }) → Steady o s journal →
+    Steady o (after s (told (event.Enter n))) (journal ++ told (event.Enter n) ∷ [])
 steady_entered o s journal n node c came h = subst (λ (t : State). Steady o t (journal ++ l ∷ [])) (sym state) (record {
   at = sym state ∙ replayed o s journal l h.at;
   works = h.works ∙ sym (works_in-none journal l refl);
-  known = λ x hx. ⊎_elim (h.known x) (λ (e : new_task n node c ≡ x). subst (λ (z : Task). numbered z.no s.arrivals ≡ Some (arrival_for z)) e came) (has_queued (new_task n node c) s.tasks x hx);
+  known = λ x hx. ⊎_elim (h.known x)
+      (λ (e : new_task n node c ≡ x). subst (λ (z : Task). numbered z.no s.arrivals ≡ Some (arrival_for z)) e came)
+      (has_queued (new_task n node c) s.tasks x hx);
   asked = λ p hp. let a = h.asked p hp in (a.0, a.1, has_stays (is_asked p.no) journal l a.2);
   opened = opened_stays journal l s.functions s.functions (λ m. refl) (λ m i. inr i) h.opened;
   sorted = h.sorted;
@@ -631,13 +739,21 @@ steady_entered o s journal n node c came h = subst (λ (t : State). Steady o t (
     state = after_entered n node c s came
 
 -- a function is taken up
-pub after_taken : (n : ℕ) (node : Node) (ask : Ask) (s : State) → arrival_of n s ≡ Some (record { node = node; work = work.Ask ask }) → after s (told (event.Asked n)) ≡ taken_up n ask s
+pub after_taken : (n : ℕ) (node : Node) (ask : Ask) (s : State) →
+    arrival_of n s ≡ Some (record { node = node; work = work.Ask ask }) →
+    after s (told (event.Asked n)) ≡ taken_up n ask s
 unfolding after
 after_taken n node ask s e = ap (λ a. after_asked n a s) e
 
 -- its works and its control stay
-pub asked_keeps : (n : ℕ) (node : Node) (ask : Ask) (s : State) → arrival_of n s ≡ Some (record { node = node; work = work.Ask ask }) → ((after s (told (event.Asked n))).arrivals ≡ s.arrivals) × ((after s (told (event.Asked n))).control ≡ s.control)
-asked_keeps n node ask s e = (ap (λ (t : State). t.arrivals) (after_taken n node ask s e), ap (λ (t : State). t.control) (after_taken n node ask s e))
+pub asked_keeps : (n : ℕ) (node : Node) (ask : Ask) (s : State) →
+    arrival_of n s ≡ Some (record { node = node; work = work.Ask ask }) →
+    ((after s (told (event.Asked n))).arrivals ≡ s.arrivals) × ((after s (told (event.Asked n))).control ≡ s.control)
+asked_keeps n node ask s e = (
+  ap (λ (t : State). t.arrivals) (after_taken n node ask s e),
+  ap (λ (t : State). t.control)
+      (after_taken n node ask s e),
+)
 
 pub record StopOf (s : State) (n : ℕ) (ask : Ask) (ts : List Task) (m : Message) : Type 0 where
   pub task : Task
@@ -646,44 +762,62 @@ pub record StopOf (s : State) (n : ℕ) (ask : Ask) (ts : List Task) (m : Messag
   pub by : m.by ≡ n
   pub told : m.told ≡ is_told s ask task
 
-stop_of : (s : State) (n : ℕ) (ask : Ask) (ts : List Task) (m : Message) → HasMessage (stops_by s n ask ts) m → StopOf s n ask ts m
+stop_of : (s : State) (n : ℕ) (ask : Ask) (ts : List Task) (m : Message) → HasMessage (stops_by s n ask ts) m →
+    StopOf s n ask ts m
 stop_of s n ask [] m h = absurd h
 stop_of s n ask (x ∷ ts) m h = go (wants_stop s ask x) h (stop_of s n ask ts m)
   where
     later : StopOf s n ask ts m → StopOf s n ask (x ∷ ts) m
     later r = record { task = r.task; has = inr r.has; no = r.no; by = r.by; told = r.told }
 
-    go : (t : Bool) → HasMessage (cond t (stop x.no n (is_told s ask x) ∷ stops_by s n ask ts) (stops_by s n ask ts)) m → (HasMessage (stops_by s n ask ts) m → StopOf s n ask ts m) → StopOf s n ask (x ∷ ts) m
-    go true (inl e) rec = record { task = x; has = inl refl; no = ap (λ (z : Message). z.no) (sym e); by = ap (λ (z : Message). z.by) (sym e); told = ap (λ (z : Message). z.told) (sym e) }
+    go : (t : Bool) → HasMessage
+        (cond t (stop x.no n (is_told s ask x) ∷ stops_by s n ask ts) (stops_by s n ask ts)) m →
+        (HasMessage (stops_by s n ask ts) m → StopOf s n ask ts m) → StopOf s n ask (x ∷ ts) m
+    go true (inl e) rec = record {
+      task = x;
+      has = inl refl;
+      no = ap (λ (z : Message). z.no) (sym e);
+      by = ap
+          (λ (z : Message). z.by) (sym e);
+      told = ap (λ (z : Message). z.told) (sym e);
+    }
     go true (inr h) rec = later (rec h)
     go false h rec = later (rec h)
 
-pub steady_asked : (o : Opening) (s : State) (journal : List Logged) (n : ℕ) (node : Node) (ask : Ask) → numbered n s.arrivals ≡ Some (record { node = node; work = work.Ask ask }) → has (is_asked n) journal ≡ false → s.control ≡ (serial_disk o journal).control →
+pub steady_asked : (o : Opening) (s : State) (journal : List Logged) (n : ℕ) (node : Node) (ask : Ask) →
+    numbered n s.arrivals ≡ Some (record { node = node; work = work.Ask ask }) → has (is_asked n) journal ≡ false →
+    s.control ≡ (serial_disk o journal).control →
     Steady o s journal → Steady o (after s (told (event.Asked n))) (journal ++ told (event.Asked n) ∷ [])
-steady_asked o s journal n node ask came new control h = subst (λ (t : State). Steady o t (journal ++ l ∷ [])) (sym state) (record {
-  at = sym state ∙ replayed o s journal l h.at;
-  works = h.works ∙ sym (works_in-none journal l refl);
-  known = h.known;
-  asked = λ q hq. ⊎_elim
-      (λ (k : HasOpen s.functions q). let a = h.asked q k in (a.0, a.1, has_stays (is_asked q.no) journal l a.2))
-      (λ (k : p ≡ q). (node, subst (λ (z : Open). numbered z.no s.arrivals ≡ Some (record { node = node; work = work.Ask z.ask })) k came, subst (λ (z : Open). has (is_asked z.no) (journal ++ l ∷ []) ≡ true) k now))
-      (has_with_function p s.functions q hq);
-  opened = λ m e. opens m e (cases_eq m n);
-  sorted = ascending_with p s.functions (λ i. let q = in_open s.functions n i in both_ways (has (is_asked n) journal) new (subst (λ k. has (is_asked k) journal ≡ true) q.2 (h.asked q.0 q.1).2)) h.sorted;
-  stops = λ m i is. ⊎_elim
-      (λ (k : HasMessage s.to_b m). telling_stays o journal l s.arrivals s.arrivals m (λ k a e. e) (h.stops m k is))
-      (λ (k : HasMessage (stops_by s n ask s.tasks) m). let r = stop_of s n ask s.tasks m k in inr (record {
-        node = node;
-        ask = ask;
-        other = r.task.node;
-        command = r.task.command;
-        by = ap (λ i. numbered i s.arrivals) r.by ∙ came;
-        no = ap (λ i. numbered i s.arrivals) r.no ∙ h.known r.task r.has;
-        asking = subst (λ i. has (is_asked i) (journal ++ l ∷ []) ≡ true) (sym r.by) now;
-        told = r.told ∙ ap (λ b. b && not (is_same_nexus ask.nexus r.task.command.nexus)) (said ∙ ap (λ i. told_aborts_at o i (journal ++ l ∷ [])) (sym r.by));
-      }))
-      (message_append s.to_b (stops_by s n ask s.tasks) m i);
-})
+steady_asked o s journal n node ask came new control h =
+    subst (λ (t : State). Steady o t (journal ++ l ∷ [])) (sym state) (record {
+      at = sym state ∙ replayed o s journal l h.at;
+      works = h.works ∙ sym (works_in-none journal l refl);
+      known = h.known;
+      asked = λ q hq. ⊎_elim
+          (λ (k : HasOpen s.functions q). let a = h.asked q k in (a.0, a.1, has_stays (is_asked q.no) journal l a.2))
+          (λ (k : p ≡ q). (node, subst (λ (z : Open). numbered z.no s.arrivals ≡ Some (record { node = node; work = work.Ask z.ask })) k came, subst (λ (z : Open). has (is_asked z.no) (journal ++ l ∷ []) ≡ true) k now))
+          (has_with_function p s.functions q hq);
+      opened = λ m e. opens m e (cases_eq m n);
+      sorted =
+          ascending_with p s.functions
+          (λ i. let q = in_open s.functions n i in
+          both_ways (has (is_asked n) journal) new
+          (subst (λ k. has (is_asked k) journal ≡ true) q.2 (h.asked q.0 q.1).2)) h.sorted;
+      stops = λ m i is. ⊎_elim
+          (λ (k : HasMessage s.to_b m). telling_stays o journal l s.arrivals s.arrivals m (λ k a e. e) (h.stops m k is))
+          (λ (k : HasMessage (stops_by s n ask s.tasks) m). let r = stop_of s n ask s.tasks m k in inr (record {
+            node = node;
+            ask = ask;
+            other = r.task.node;
+            command = r.task.command;
+            by = ap (λ i. numbered i s.arrivals) r.by ∙ came;
+            no = ap (λ i. numbered i s.arrivals) r.no ∙ h.known r.task r.has;
+            asking = subst (λ i. has (is_asked i) (journal ++ l ∷ []) ≡ true) (sym r.by) now;
+            told = r.told ∙ ap (λ b. b && not (is_same_nexus ask.nexus r.task.command.nexus))
+                (said ∙ ap (λ i. told_aborts_at o i (journal ++ l ∷ [])) (sym r.by));
+          }))
+          (message_append s.to_b (stops_by s n ask s.tasks) m i);
+    })
   where
     l : Logged
     l = told (event.Asked n)
@@ -698,10 +832,13 @@ steady_asked o s journal n node ask came new control h = subst (λ (t : State). 
     now = has_now (is_asked n) journal l (eq-eqb n n refl)
 
     said : tells_aborts s.control ≡ told_aborts_at o n (journal ++ l ∷ [])
-    said = ap tells_aborts control ∙ ap (λ (es : List Logged). tells_aborts (serial_disk o es).control) (sym (until_now (is_asked n) journal l new (eq-eqb n n refl)))
+    said = ap tells_aborts control ∙ ap (λ (es : List Logged). tells_aborts (serial_disk o es).control)
+        (sym (until_now (is_asked n) journal l new (eq-eqb n n refl)))
 
-    opens : (m : ℕ) → has (is_asked m) (journal ++ l ∷ []) ≡ true → (m ≡ n) ⊎ (m ≡ n → ⊥) → (has (is_entry m) (journal ++ l ∷ []) ≡ true) ⊎ IsIn m (numbers (with_function p s.functions))
-    opens m e (inl k) = inr (subst (λ i. IsIn i (numbers (with_function p s.functions))) (sym k) (with_in_itself p s.functions))
+    opens : (m : ℕ) → has (is_asked m) (journal ++ l ∷ []) ≡ true → (m ≡ n) ⊎ (m ≡ n → ⊥) →
+        (has (is_entry m) (journal ++ l ∷ []) ≡ true) ⊎ IsIn m (numbers (with_function p s.functions))
+    opens m e (inl k) =
+        inr (subst (λ i. IsIn i (numbers (with_function p s.functions))) (sym k) (with_in_itself p s.functions))
     opens m e (inr k) = ⊎_elim
         (λ (z : has (is_entry m) journal ≡ true). inl (has_stays (is_entry m) journal l z))
         (λ (z : IsIn m (numbers s.functions)). inr (with_in p s.functions m z))

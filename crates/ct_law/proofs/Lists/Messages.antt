@@ -62,7 +62,8 @@ abbrev pub Once : List Message → Type 0
 Once [] = Unit {0}
 Once (m ∷ ms) = (is_arrival m.kind ≡ true → Sent is_arrival m.no ms → ⊥) × Once ms
 
-pub sent_push : (p : Kind2 → Bool) (n : ℕ) (ms : List Message) (m : Message) → Sent p n (ms ++ m ∷ []) → Sent p n ms ⊎ ((p m.kind ≡ true) × (m.no ≡ n))
+pub sent_push : (p : Kind2 → Bool) (n : ℕ) (ms : List Message) (m : Message) → Sent p n (ms ++ m ∷ []) →
+    Sent p n ms ⊎ ((p m.kind ≡ true) × (m.no ≡ n))
 sent_push p n [] m (inl h) = inr h
 sent_push p n [] m (inr h) = absurd h
 sent_push p n (k ∷ ms) m (inl h) = inl (inl h)
@@ -78,13 +79,17 @@ push_last p [] m e = inl (e, refl)
 push_last p (k ∷ ms) m e = inr (push_last p ms m e)
 
 -- a message of another kind
-pub sent_other : (p : Kind2 → Bool) (n : ℕ) (ms : List Message) (m : Message) → p m.kind ≡ false → Sent p n (ms ++ m ∷ []) → Sent p n ms
-sent_other p n ms m e h = ⊎_elim (λ k. k) (λ (k : (p m.kind ≡ true) × (m.no ≡ n)). absurd (both_ways (p m.kind) e k.0)) (sent_push p n ms m h)
+pub sent_other : (p : Kind2 → Bool) (n : ℕ) (ms : List Message) (m : Message) → p m.kind ≡ false →
+    Sent p n (ms ++ m ∷ []) → Sent p n ms
+sent_other p n ms m e h =
+    ⊎_elim (λ k. k) (λ (k : (p m.kind ≡ true) × (m.no ≡ n)). absurd (both_ways (p m.kind) e k.0)) (sent_push p n ms m h)
 
-pub once_push : (ms : List Message) (m : Message) → (is_arrival m.kind ≡ true → Sent is_arrival m.no ms → ⊥) → Once ms → Once (ms ++ m ∷ [])
+pub once_push : (ms : List Message) (m : Message) → (is_arrival m.kind ≡ true → Sent is_arrival m.no ms → ⊥) → Once ms →
+    Once (ms ++ m ∷ [])
 once_push [] m f h = (λ e k. k, tt)
 once_push (k ∷ ms) m f h = (
-  λ e s. ⊎_elim (h.0 e) (λ (w : (is_arrival m.kind ≡ true) × (m.no ≡ k.no)). f w.0 (inl (e, sym w.1))) (sent_push is_arrival k.no ms m s),
+  λ e s. ⊎_elim (h.0 e) (λ (w : (is_arrival m.kind ≡ true) × (m.no ≡ k.no)). f w.0 (inl (e, sym w.1)))
+      (sent_push is_arrival k.no ms m s),
   once_push ms m (λ e s. f e (inr s)) h.1,
 )
 
@@ -104,8 +109,11 @@ stop_append n f [] ks h = inr h
 stop_append n f (m ∷ ms) ks (inl h) = inl (inl h)
 stop_append n f (m ∷ ms) ks (inr h) = ⊎_elim (λ (r : IsStop n f ms). inl (inr r)) inr (stop_append n f ms ks h)
 
-pub stop_other : (n f : ℕ) (ms : List Message) (m : Message) → is_stop m.kind ≡ false → IsStop n f (ms ++ m ∷ []) → IsStop n f ms
+pub stop_other : (n f : ℕ) (ms : List Message) (m : Message) → is_stop m.kind ≡ false → IsStop n f (ms ++ m ∷ []) →
+    IsStop n f ms
 stop_other n f ms m e h =
     ⊎_elim (λ k. k)
-    (λ (k : ((is_stop m.kind ≡ true) × (m.no ≡ n) × (m.by ≡ f)) ⊎ ⊥). absurd (⊎_elim (λ (w : (is_stop m.kind ≡ true) × (m.no ≡ n) × (m.by ≡ f)). both_ways (is_stop m.kind) e w.0) (λ (w : ⊥). w) k))
+    (λ (k : ((is_stop m.kind ≡ true) × (m.no ≡ n) × (m.by ≡ f)) ⊎ ⊥). absurd
+    (⊎_elim (λ (w : (is_stop m.kind ≡ true) × (m.no ≡ n) × (m.by ≡ f)). both_ways (is_stop m.kind) e w.0)
+    (λ (w : ⊥). w) k))
     (stop_append n f ms (m ∷ []) h)

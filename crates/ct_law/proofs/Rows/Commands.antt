@@ -101,7 +101,12 @@ whole_law n disk c sized e moves = go (plan_in n c) refl moves
 
 -- Refused
 
-refused_is : (disk : Disk) (c : Command) (reply : Reply) → refusal_of disk.control (length disk.blocks) c ≡ Some reply → execute disk c ≡ record { disk = record { control = refused_control disk.control c; blocks = disk.blocks }; reply = reply; cleared = no_nexuses }
+refused_is : (disk : Disk) (c : Command) (reply : Reply) → refusal_of disk.control (length disk.blocks) c ≡ Some reply →
+    execute disk c ≡ record {
+      disk = record { control = refused_control disk.control c; blocks = disk.blocks };
+      reply = reply;
+      cleared = no_nexuses;
+    }
 unfolding execute
 refused_is disk c reply e = ap (λ o. executed o disk c) e
 
@@ -157,20 +162,32 @@ once_is n control blocks c sized h = go (refusal_of control n c) refl h
           cleared = cleared_by control c;
         }) sized
 
-once_law : (n : ℕ) (disk : Disk) (now : ControlState) (blocks : List (List ℕ)) (c : Command) → length disk.blocks ≡ n → length blocks ≡ n → now ≡ disk.control → IsOnce (refusal_of now n c) (plan_in n c) → Same disk now blocks c
+once_law : (n : ℕ) (disk : Disk) (now : ControlState) (blocks : List (List ℕ)) (c : Command) → length disk.blocks ≡ n →
+    length blocks ≡ n → now ≡ disk.control → IsOnce (refusal_of now n c) (plan_in n c) → Same disk now blocks c
 once_law n disk now blocks c sized size e h =
     let here = once_is n now blocks c size h in
     let there = once_is n disk.control disk.blocks c sized (subst (λ k. IsOnce (refusal_of k n c) (plan_in n c)) e h) in
     record {
-      control = ap (λ (a : Execution). a.disk.control) there ∙ ap (λ k. changed_once n k c) (sym e) ∙ sym (ap (λ (a : Execution). a.disk.control) here);
-      reply = ap (λ (a : Execution). a.reply) here ∙ ap (λ k. replied_once n k c) e ∙ sym (ap (λ (a : Execution). a.reply) there);
-      cleared = ap (λ (a : Execution). a.cleared) here ∙ ap (λ k. clears_once n k c) e ∙ sym (ap (λ (a : Execution). a.cleared) there);
+      control =
+          ap (λ (a : Execution). a.disk.control) there ∙ ap (λ k. changed_once n k c) (sym e) ∙ sym
+          (ap (λ (a : Execution). a.disk.control) here);
+      reply = ap (λ (a : Execution). a.reply) here ∙ ap (λ k. replied_once n k c) e ∙ sym
+          (ap (λ (a : Execution). a.reply) there);
+      cleared =
+          ap (λ (a : Execution). a.cleared) here ∙ ap (λ k. clears_once n k c) e ∙ sym
+          (ap (λ (a : Execution). a.cleared) there);
       disk_blocks = ap (λ (a : Execution). a.disk.blocks) there;
       blocks = ap (λ (a : Execution). a.disk.blocks) here;
     }
 
 -- a property of an execution that is refused or operated
-executions : (P : Disk → Command → Execution → Type 0) (disk : Disk) (c : Command) → ((reply : Reply) → P disk c (record { disk = record { control = refused_control disk.control c; blocks = disk.blocks }; reply = reply; cleared = no_nexuses })) → P disk c (done disk c (plan_in (length disk.blocks) c)) → P disk c (execute disk c)
+executions : (P : Disk → Command → Execution → Type 0) (disk : Disk) (c : Command) →
+    ((reply : Reply) → P disk c
+    (record {
+      disk = record { control = refused_control disk.control c; blocks = disk.blocks };
+      reply = reply;
+      cleared = no_nexuses;
+    })) → P disk c (done disk c (plan_in (length disk.blocks) c)) → P disk c (execute disk c)
 executions P disk c one two = go (refusal_of disk.control (length disk.blocks) c) refl
   where
     go : (o : Option Reply) → refusal_of disk.control (length disk.blocks) c ≡ o → P disk c (execute disk c)
@@ -179,7 +196,8 @@ executions P disk c one two = go (refusal_of disk.control (length disk.blocks) c
 
 -- Allowed
 
--- a control that lets begin what another let begin: no nexus has a unit attention that had none, and the rest is the same
+-- a control that lets begin what another let begin: no nexus has a unit attention that had none, and the rest is the
+-- same
 record Allows (before after : ControlState) : Type 0 where
   pages : after.pages ≡ before.pages
   started : after.is_started ≡ before.is_started
@@ -432,7 +450,9 @@ reorders_law unrestricted n a b x y disk apart moves =
     (executed_allows disk n b (unchanging unrestricted n a b x y apart moves)).pages
 
 sizes_law : (disk : Disk) (c : Command) → length (execute disk c).disk.blocks ≡ length disk.blocks
-sizes_law disk c = executions (λ d c e. length e.disk.blocks ≡ length d.blocks) disk c (λ reply. refl) (perform_size c.out (plan_in (length disk.blocks) c) (begun disk c))
+sizes_law disk c =
+    executions (λ d c e. length e.disk.blocks ≡ length d.blocks) disk c (λ reply. refl)
+    (perform_size c.out (plan_in (length disk.blocks) c) (begun disk c))
 
 -- Cleared
 
@@ -455,7 +475,8 @@ unclearing_law unrestricted n a b x y disk nexus apart moves =
 moving_law : (n : ℕ) (disk : Disk) (c : Command) (nexus : Nexus) → length disk.blocks ≡ n
     → has_operations (plan_in n c) ≡ true → contains (execute disk c).cleared nexus ≡ false
 moving_law n disk c nexus sized moves =
-    executions (λ d c e. (has_operations (plan_in (length d.blocks) c) ≡ true) → contains e.cleared nexus ≡ false) disk c
+    executions (λ d c e. (has_operations (plan_in (length d.blocks) c) ≡ true) →
+    contains e.cleared nexus ≡ false) disk c
     (λ reply moves. none_contained nexus) (λ moves. go (plan_in (length disk.blocks) c) refl moves)
     (subst (λ m. has_operations (plan_in m c) ≡ true) (sym sized) moves)
   where
@@ -468,7 +489,8 @@ moving_law n disk c nexus sized moves =
 told_law : (disk : Disk) (c : Command) (nexus : Nexus) → contains (execute disk c).cleared nexus ≡ true
     → tells_aborts (execute disk c).disk.control ≡ tells_aborts disk.control
 told_law disk c nexus clears =
-    executions (λ d c e. (contains e.cleared nexus ≡ true) → tells_aborts e.disk.control ≡ tells_aborts d.control) disk c
+    executions (λ d c e. (contains e.cleared nexus ≡ true) →
+    tells_aborts e.disk.control ≡ tells_aborts d.control) disk c
     (λ reply clears. absurd (both_ways (contains no_nexuses nexus) (none_contained nexus) clears))
     (clearing_keeps_tas disk.control c nexus) clears
 
@@ -486,11 +508,14 @@ skip_law unrestricted a b e = go (action_of a.index b.index) e
     go action.OptExtent e = absurd (cc)
 
 -- nor does a function
-pub same_closing : (ask : Ask) (others : List Bool) (control : ControlState) → closing_control ask others control ≡ control
+pub same_closing : (ask : Ask) (others : List Bool) (control : ControlState) →
+    closing_control ask others control ≡ control
 unfolding closing_control
 same_closing ask others control = refl
 
-spared_law : (ask : Ask) (others : List Bool) (control : ControlState) (n : ℕ) (a : Command) → hits ask a.nexus a.tag ≡ false → refusal_of control n a ≡ None → refusal_of (closing_control ask others control) n a ≡ None
+spared_law : (ask : Ask) (others : List Bool) (control : ControlState) (n : ℕ) (a : Command) →
+    hits ask a.nexus a.tag ≡ false → refusal_of control n a ≡ None →
+    refusal_of (closing_control ask others control) n a ≡ None
 spared_law ask others control n a h e = ap (λ k. refusal_of k n a) (same_closing ask others control) ∙ e
 
 pub laws : Laws

@@ -19,7 +19,8 @@ use Rattle.ct_plan.specs.Plans.{is_put, operation_of, operations_from, operation
 use Rattle.ct_plan.specs.Tasks.{lba_of}
 use Rattle.ct_plan.proofs.Planned.{lba_is}
 use Rattle.ct_plan.proofs.Ranged.{put_of}
-use Rattle.ct_matrix.specs.Extents.{Print, blocks_in, share_a_block, overlap, extents_of, rising, extents_if, whole_print}
+use Rattle.ct_matrix.specs.Extents.{Print, blocks_in, share_a_block, overlap, extents_of, rising, extents_if}
+use Rattle.ct_matrix.specs.Extents.{whole_print}
 use Rattle.ct_matrix.proofs.Rising.{any_rising}
 use Rattle.ct_matrix.specs.Extents.{no_print, footprint_of}
 use Rattle.ct_matrix.specs.Matrix.{action_of}

@@ -50,25 +50,37 @@ pub record Same (disk : Disk) (now : ControlState) (bs : List (List ℕ)) (c : C
 -- the commands of a disk of n blocks
 pub record Laws : Type 0 where
   -- under the restricted modifier what doesn't conflict goes apart
-  pub apart : (n : ℕ) (a b : Command) (x y : Bool) → conflicts false (held_by n a x) (held_by n b y) ≡ false → Apart (plan_in n a) (plan_in n b)
+  pub apart : (n : ℕ) (a b : Command) (x y : Bool) → conflicts false (held_by n a x) (held_by n b y) ≡ false →
+      Apart (plan_in n a) (plan_in n b)
   -- under either what doesn't conflict with a command that moves blocks leaves it allowed
-  pub allowed : (unrestricted : Bool) (n : ℕ) (a b : Command) (x y : Bool) (disk : Disk) → conflicts unrestricted (held_by n a x) (held_by n b y) ≡ false → has_operations (plan_in n a) ≡ true → refusal_of disk.control n a ≡ None → refusal_of (execute disk b).disk.control n a ≡ None
+  pub allowed : (unrestricted : Bool) (n : ℕ) (a b : Command) (x y : Bool) (disk : Disk) →
+      conflicts unrestricted (held_by n a x) (held_by n b y) ≡ false → has_operations (plan_in n a) ≡ true →
+      refusal_of disk.control n a ≡ None → refusal_of (execute disk b).disk.control n a ≡ None
   -- a command that moves blocks does at once what its operations do
-  pub whole : (n : ℕ) (disk : Disk) (c : Command) → length disk.blocks ≡ n → refusal_of disk.control n c ≡ None → has_operations (plan_in n c) ≡ true → execute disk c ≡ operated disk c (plan_in n c)
+  pub whole : (n : ℕ) (disk : Disk) (c : Command) → length disk.blocks ≡ n → refusal_of disk.control n c ≡ None →
+      has_operations (plan_in n c) ≡ true → execute disk c ≡ operated disk c (plan_in n c)
   -- any other leaves the blocks, whatever they are
-  pub once : (n : ℕ) (disk : Disk) (now : ControlState) (blocks : List (List ℕ)) (c : Command) → length disk.blocks ≡ n → length blocks ≡ n → now ≡ disk.control → IsOnce (refusal_of now n c) (plan_in n c) → Same disk now blocks c
+  pub once : (n : ℕ) (disk : Disk) (now : ControlState) (blocks : List (List ℕ)) (c : Command) →
+      length disk.blocks ≡ n → length blocks ≡ n → now ≡ disk.control → IsOnce (refusal_of now n c) (plan_in n c) →
+      Same disk now blocks c
   -- no command changes the number of blocks
   pub sizes : (disk : Disk) (c : Command) → length (execute disk c).disk.blocks ≡ length disk.blocks
   -- a skip is no conflict
   pub skipped : (unrestricted : Bool) (a b : Held) → skips a b ≡ true → conflicts unrestricted a b ≡ false
   -- what a function doesn't hit it leaves allowed
-  pub spared : (ask : Ask) (others : List Bool) (control : ControlState) (n : ℕ) (a : Command) → hits ask a.nexus a.tag ≡ false → refusal_of control n a ≡ None → refusal_of (closing_control ask others control) n a ≡ None
+  pub spared : (ask : Ask) (others : List Bool) (control : ControlState) (n : ℕ) (a : Command) →
+      hits ask a.nexus a.tag ≡ false → refusal_of control n a ≡ None →
+      refusal_of (closing_control ask others control) n a ≡ None
   -- under either modifier what doesn't conflict with a command that moves blocks clears no nexus, nor does that command
-  pub unclearing : (unrestricted : Bool) (n : ℕ) (a b : Command) (x y : Bool) (disk : Disk) (nexus : Nexus) → conflicts unrestricted (held_by n a x) (held_by n b y) ≡ false → has_operations (plan_in n a) ≡ true → contains (execute disk b).cleared nexus ≡ false
-  pub moving_clears : (n : ℕ) (disk : Disk) (c : Command) (nexus : Nexus) → length disk.blocks ≡ n → has_operations (plan_in n c) ≡ true → contains (execute disk c).cleared nexus ≡ false
+  pub unclearing : (unrestricted : Bool) (n : ℕ) (a b : Command) (x y : Bool) (disk : Disk) (nexus : Nexus) →
+      conflicts unrestricted (held_by n a x) (held_by n b y) ≡ false → has_operations (plan_in n a) ≡ true →
+      contains (execute disk b).cleared nexus ≡ false
+  pub moving_clears : (n : ℕ) (disk : Disk) (c : Command) (nexus : Nexus) → length disk.blocks ≡ n →
+      has_operations (plan_in n c) ≡ true → contains (execute disk c).cleared nexus ≡ false
   -- under either modifier what doesn't conflict with a command that moves blocks leaves the modifier
   pub reorders : (unrestricted : Bool) (n : ℕ) (a b : Command) (x y : Bool) (disk : Disk) →
       conflicts unrestricted (held_by n a x) (held_by n b y) ≡ false → has_operations (plan_in n a) ≡ true →
       is_unrestricted (execute disk b).disk.control ≡ is_unrestricted disk.control
   -- what clears a nexus leaves TAS
-  pub clears_told : (disk : Disk) (c : Command) (nexus : Nexus) → contains (execute disk c).cleared nexus ≡ true → tells_aborts (execute disk c).disk.control ≡ tells_aborts disk.control
+  pub clears_told : (disk : Disk) (c : Command) (nexus : Nexus) → contains (execute disk c).cleared nexus ≡ true →
+      tells_aborts (execute disk c).disk.control ≡ tells_aborts disk.control

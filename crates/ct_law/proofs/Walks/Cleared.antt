@@ -1,10 +1,12 @@
 -- The commands that a PREEMPT AND ABORT cuts: what is left of a task set, one by one.
-use Rattle.std.proofs.Common.{◌≡◌, ℕ, ◌+◌, ◌≤◌, ◌&&◌, Bool, true, false, List, [], ◌∷◌, Some, inl, inr, refl, sym, ap, ◌∙◌}
+use Rattle.std.proofs.Common.{◌≡◌, ℕ, ◌+◌, ◌≤◌, ◌&&◌, Bool, true, false, List, [], ◌∷◌, Some, inl, inr, refl, sym, ap}
+use Rattle.std.proofs.Common.{◌∙◌}
 use Rattle.std.proofs.Common.{nat_eq, cond, eqb-true, eq-eqb, arith, length}
 use Rattle.std.proofs.lemmas.Bool.{and_parts, eqb-false}
 use Rattle.ct_book.specs.declared.event.Event.TheVariants as event
 use Rattle.ct_book.specs.declared.event.Why.TheVariants.{By}
-use Rattle.ct_machine.specs.States.{Stage, Waiting, Here, Granted, There, Over, Task, State, is_waiting, is_remote, task_of, without_task}
+use Rattle.ct_machine.specs.States.{Stage, Waiting, Here, Granted, There, Over, Task, State, is_waiting, is_remote}
+use Rattle.ct_machine.specs.States.{task_of, without_task}
 use Rattle.ct_machine.specs.Events.{after}
 use Rattle.ct_machine.specs.Events.Ends.{after_cut, cut_at, noted, is_cleared, stops_with}
 use Rattle.ct_machine.specs.Events.Sends.{stop}
@@ -100,10 +102,12 @@ count_cleared cleared (x ∷ xs) = one_if (is_cleared cleared x) + count_cleared
 pub stops_count : (told_so : Bool) (by : ℕ) (cleared : List Bool) (tasks : List Task)
     → length (stops_with told_so by cleared tasks) ≤ count_cleared cleared tasks
 stops_count told_so by cleared [] = omega arith
-stops_count told_so by cleared (x ∷ xs) = go (is_cleared cleared x) (is_remote x.node) (stops_count told_so by cleared xs)
+stops_count told_so by cleared (x ∷ xs) =
+    go (is_cleared cleared x) (is_remote x.node) (stops_count told_so by cleared xs)
   where
     go : (t b : Bool) → length (stops_with told_so by cleared xs) ≤ count_cleared cleared xs
-        → length (cond (t && b) (stop x.no by told_so ∷ stops_with told_so by cleared xs) (stops_with told_so by cleared xs))
+        → length (cond (t && b) (stop x.no by told_so ∷ stops_with told_so by cleared xs)
+        (stops_with told_so by cleared xs))
         ≤ one_if t + count_cleared cleared xs
     go true true h = omega (arith, h)
     go true false h = omega (arith, h)

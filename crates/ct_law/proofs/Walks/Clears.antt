@@ -1,5 +1,6 @@
 -- Behind a PREEMPT AND ABORT: what holds while the commands that it clears are cut.
-use Rattle.std.proofs.Common.{◌≡◌, ℕ, ◌⊎◌, inl, inr, Bool, true, false, ◌&&◌, List, [], ◌∷◌, ◌++◌, Some, refl, sym, ap, ◌∙◌, subst}
+use Rattle.std.proofs.Common.{◌≡◌, ℕ, ◌⊎◌, inl, inr, Bool, true, false, ◌&&◌, List, [], ◌∷◌, ◌++◌, Some, refl, sym, ap}
+use Rattle.std.proofs.Common.{◌∙◌, subst}
 use Rattle.std.proofs.Common.{⊎_elim, cond, drop, eq-eqb, append-nil}
 use Rattle.std.proofs.lemmas.Bool.{both_ways}
 use Rattle.std.specs.List.{filter}
@@ -74,7 +75,8 @@ stops_struck told_so by cleared (y ∷ ys) k f h =
     more r = (r.0, r.1, inr r.2, r.3, r.4)
 
     go : (t b : Bool) → is_cleared cleared y ≡ t
-        → IsStop k f (cond (t && b) (stop y.no by told_so ∷ stops_with told_so by cleared ys) (stops_with told_so by cleared ys))
+        → IsStop k f (cond (t && b) (stop y.no by told_so ∷ stops_with told_so by cleared ys)
+        (stops_with told_so by cleared ys))
         → (IsStop k f (stops_with told_so by cleared ys) → Struck by cleared ys f k) → Struck by cleared (y ∷ ys) f k
     go true true e (inl h) rec = (sym h.2, y, inl refl, h.1, e)
     go true true e (inr h) rec = more (rec h)
@@ -96,7 +98,8 @@ stops_so o s journal by told_so cleared closed h = record {
     opens = record {
       gone = i.frame.opens.gone;
       begun = λ k f r. ⊎_elim (i.frame.opens.begun k f)
-          (λ (r : IsStop k f stops). inr (inr (stops_struck told_so by cleared s.tasks k f r))) (stop_append k f s.to_b stops r);
+          (λ (r : IsStop k f stops). inr (inr (stops_struck told_so by cleared s.tasks k f r)))
+          (stop_append k f s.to_b stops r);
       stops = λ k f x r hx e remote. ⊎_elim (λ (r : IsStop k f s.to_b). i.frame.opens.stops k f x r hx e remote)
           (λ (r : IsStop k f stops). absurd (waits k f x hx e remote (stops_struck told_so by cleared s.tasks k f r)))
           (stop_append k f s.to_b stops r);
@@ -134,7 +137,8 @@ due_from by told_so cleared tasks =
     record { by = by; told = told_so; left = numbers_among (filter (is_of cleared) (members_of tasks)) }
 
 -- what holds while these commands are left to be looked at
-pub record Clearing (by : ℕ) (c : Command) (told_so : Bool) (cleared : List Bool) (rest : List Task) (o : Opening) (s : State) (journal : List Logged) : Type 0 where
+pub record Clearing (by : ℕ) (c : Command) (told_so : Bool) (cleared : List Bool) (rest : List Task) (o : Opening)
+    (s : State) (journal : List Logged) : Type 0 where
   pub inv : Inv (Struck by cleared rest) o s journal
   pub at : s ≡ replay o journal
   pub timely : Each (TimelyAt o) journal
@@ -149,7 +153,8 @@ pub record Clearing (by : ℕ) (c : Command) (told_so : Bool) (cleared : List Bo
   pub gone : (y : Task) → Has s.tasks y → y.no ≡ by → ⊥
 
 -- none is left
-cleared_now : (by : ℕ) (c : Command) (told_so : Bool) (cleared : List Bool) (o : Opening) (s : State) (journal : List Logged)
+cleared_now : (by : ℕ) (c : Command) (told_so : Bool) (cleared : List Bool) (o : Opening) (s : State)
+    (journal : List Logged)
     → Clearing by c told_so cleared [] o s journal → Now NoneDue o s journal
 cleared_now by c told_so cleared o s journal h = record {
   inv = inv_less (Struck by cleared []) NoneDue o s journal h.closed (λ f k due. absurd due.2) h.inv;
@@ -157,7 +162,8 @@ cleared_now by c told_so cleared o s journal h = record {
 }
 
 -- one whose nexus isn't cleared is passed by
-passed : (by : ℕ) (c : Command) (told_so : Bool) (cleared : List Bool) (x : Task) (rest : List Task) (o : Opening) (s : State) (journal : List Logged)
+passed : (by : ℕ) (c : Command) (told_so : Bool) (cleared : List Bool) (x : Task) (rest : List Task) (o : Opening)
+    (s : State) (journal : List Logged)
     → Clearing by c told_so cleared (x ∷ rest) o s journal → contains cleared x.command.nexus ≡ false
     → Clearing by c told_so cleared rest o s journal
 passed by c told_so cleared x rest o s journal h other = record {
@@ -167,7 +173,12 @@ passed by c told_so cleared x rest o s journal h other = record {
   at = h.at;
   timely = h.timely;
   due = h.due
-      ∙ ap (λ b. record { by = by; told = told_so; left = numbers_among (cond b (member_of x ∷ filter (is_of cleared) (members_of rest)) (filter (is_of cleared) (members_of rest))) }) other;
+      ∙ ap (λ b. record {
+        by = by;
+        told = told_so;
+        left = numbers_among (cond b (member_of x ∷ filter (is_of cleared) (members_of rest))
+            (filter (is_of cleared) (members_of rest)));
+      }) other;
   worked = h.worked;
   stands = stands_tail x rest s.tasks h.stands;
   closed = h.closed;
@@ -187,7 +198,8 @@ passed by c told_so cleared x rest o s journal h other = record {
         go false false k e = cc
 
 -- the next is cut
-cut_next : (by : ℕ) (c : Command) (told_so : Bool) (cleared : List Bool) (x : Task) (rest : List Task) (o : Opening) (s : State) (journal : List Logged)
+cut_next : (by : ℕ) (c : Command) (told_so : Bool) (cleared : List Bool) (x : Task) (rest : List Task) (o : Opening)
+    (s : State) (journal : List Logged)
     → Clearing by c told_so cleared (x ∷ rest) o s journal → contains cleared x.command.nexus ≡ true
     → let cut = told (event.Cut x.no 0 (By by) (tells_aborts s.control)) in
     Clearing by c told_so cleared rest o (after s cut) (journal ++ cut ∷ [])
@@ -249,10 +261,16 @@ cut_next by c told_so cleared x rest o s journal h cut_it = record {
     due : due_of (standings_of o) o journal
         ≡ record { by = by; told = told_so; left = x.no ∷ numbers_among (filter (is_of cleared) (members_of rest)) }
     due = h.due
-        ∙ ap (λ b. record { by = by; told = told_so; left = numbers_among (cond b (member_of x ∷ filter (is_of cleared) (members_of rest)) (filter (is_of cleared) (members_of rest))) }) cut_it
+        ∙ ap (λ b. record {
+          by = by;
+          told = told_so;
+          left = numbers_among (cond b (member_of x ∷ filter (is_of cleared) (members_of rest))
+              (filter (is_of cleared) (members_of rest)));
+        }) cut_it
 
 -- one of them
-clear_one : (by : ℕ) (c : Command) (told_so : Bool) (cleared : List Bool) (x : Task) (rest : List Task) (o : Opening) (s : State) (journal : List Logged)
+clear_one : (by : ℕ) (c : Command) (told_so : Bool) (cleared : List Bool) (x : Task) (rest : List Task) (o : Opening)
+    (s : State) (journal : List Logged)
     → Clearing by c told_so cleared (x ∷ rest) o s journal
     → let t = clearing by cleared (task_of x.no s.tasks) s in
     Clearing by c told_so cleared rest o t.state (journal ++ t.journal)
@@ -272,7 +290,8 @@ clear_one by c told_so cleared x rest o s journal h =
         (sym (ap (λ w. w && contains cleared x.command.nexus) (h.waits x (inl refl) e) ∙ e))
         (cut_next by c told_so cleared x rest o s journal h e)
     go false e =
-        subst (λ w. Left (cond w cut (nothing s))) (sym (none (is_waiting x.stage) (contains cleared x.command.nexus) e))
+        subst (λ w. Left (cond w cut (nothing s)))
+        (sym (none (is_waiting x.stage) (contains cleared x.command.nexus) e))
         (subst (λ j. Clearing by c told_so cleared rest o s j) (sym (append-nil journal))
         (passed by c told_so cleared x rest o s journal h e))
       where
@@ -282,8 +301,10 @@ clear_one by c told_so cleared x rest o s journal h =
         none false false k = refl
 
 -- all of them
-pub clears_so : (by : ℕ) (c : Command) (told_so : Bool) (cleared : List Bool) (rest : List Task) (o : Opening) (s : State) (journal : List Logged)
-    → Clearing by c told_so cleared rest o s journal → After NoneDue o journal (clearing_all by cleared (numbers_of rest) s)
+pub clears_so : (by : ℕ) (c : Command) (told_so : Bool) (cleared : List Bool) (rest : List Task) (o : Opening)
+    (s : State) (journal : List Logged)
+    → Clearing by c told_so cleared rest o s journal →
+    After NoneDue o journal (clearing_all by cleared (numbers_of rest) s)
 clears_so by c told_so cleared [] o s journal h =
     stays_so NoneDue o s journal (cleared_now by c told_so cleared o s journal h)
 clears_so by c told_so cleared (x ∷ rest) o s journal h =

@@ -1,5 +1,6 @@
 -- Works and messages come: what holds after every act, and of all runs.
-use Rattle.std.proofs.Common.{◌≡◌, ℕ, inl, inr, Bool, true, false, List, [], ◌∷◌, ◌++◌, Option, Some, None, map, refl, sym, ap, ◌∙◌, subst, ⊎_elim, arith, eq-eqb, cond, drop, length-append}
+use Rattle.std.proofs.Common.{◌≡◌, ℕ, inl, inr, Bool, true, false, List, [], ◌∷◌, ◌++◌, Option, Some, None, map, refl}
+use Rattle.std.proofs.Common.{sym, ap, ◌∙◌, subst, ⊎_elim, arith, eq-eqb, cond, drop, length-append}
 use Rattle.std.proofs.lemmas.Bool.{both_ways}
 use Rattle.ct_word.specs.declared.names.Node.{Node}
 use Rattle.ct_word.specs.declared.names.Node.TheVariants.{A, B}
@@ -12,7 +13,8 @@ use Rattle.ct_book.specs.declared.event.Why.TheVariants.{By}
 use Rattle.ct_book.specs.declared.event.Logged.{Logged}
 use Rattle.ct_book.specs.Journals.{KeptWork, numbered, arrived}
 use Rattle.ct_machine.specs.declared.act.Opening.{Opening}
-use Rattle.ct_machine.specs.States.{Task, Stage, Waiting, Here, Granted, There, Over, Message, Arrival, State, arrival_of, is_waiting, done_at, without_task, with_task, at_stage}
+use Rattle.ct_machine.specs.States.{Task, Stage, Waiting, Here, Granted, There, Over, Message, Arrival, State}
+use Rattle.ct_machine.specs.States.{arrival_of, is_waiting, done_at, without_task, with_task, at_stage}
 use Rattle.ct_machine.specs.States.{is_remote}
 use Rattle.ct_machine.specs.Events.Sends.{message}
 use Rattle.ct_machine.specs.Events.Ends.{over_at_b}
@@ -44,7 +46,8 @@ use Rattle.ct_machine.specs.declared.act.Act.TheVariants as act
 use Rattle.ct_machine.specs.States.{opened}
 use Rattle.ct_machine.specs.Runs.{replay, IsRun}
 use Rattle.ct_machine.specs.Events.Arrivals.{kind_of}
-use Rattle.ct_machine.specs.Events.Deliveries.{is_over as gone_at_b, awaits_no_more, after_grant as grant_to, begun_at_b}
+use Rattle.ct_machine.specs.Events.Deliveries.{is_over as gone_at_b, awaits_no_more, after_grant as grant_to}
+use Rattle.ct_machine.specs.Events.Deliveries.{begun_at_b}
 use Rattle.ct_machine.specs.Events.Ends.{noted}
 use Rattle.ct_law.proofs.Cells.Ends.{puts_at}
 use Rattle.ct_law.proofs.Runs.{run_induction}
@@ -53,7 +56,8 @@ use Rattle.std.proofs.lemmas.Option.{same_Some}
 use Rattle.ct_machine.specs.Acts.Entries.{entering}
 use Rattle.ct_machine.specs.Acts.Functions.{asking, closing_all, open_numbers, puts_of}
 use Rattle.ct_machine.specs.Acts.Arrivals.{next_number, has_room_for, arriving_at, arriving, arriving_here}
-use Rattle.ct_machine.specs.Acts.Messages.{taking_in, coming_in, coming_to_a, stopping_at, stopping, coming_to_b, coming_to, delivering_first, messages_to, delivering}
+use Rattle.ct_machine.specs.Acts.Messages.{taking_in, coming_in, coming_to_a, stopping_at, stopping, coming_to_b}
+use Rattle.ct_machine.specs.Acts.Messages.{coming_to, delivering_first, messages_to, delivering}
 use Rattle.ct_machine.specs.Acts.Next.{next_step, stepping_next, doing_next}
 use Rattle.ct_machine.specs.Acts.{doing}
 use Rattle.ct_law.proofs.Frame.Books.{books_pop, books_quietly}
@@ -88,12 +92,15 @@ record Came_so (o : Opening) (journal : List Logged) (n : ℕ) (node : Node) (w 
   came : numbered n t.state.arrivals ≡ Some (record { node = node; work = w })
   fresh : is_remote node ≡ false → Fresh t.state (journal ++ t.journal) n
 
-came : (o : Opening) (s : State) (journal : List Logged) (node : Node) (w : KeptWork) → Now NoneDue o s journal → Came_so o journal (next_number s) node w (writes (arrived (next_number s) node w) s)
+came : (o : Opening) (s : State) (journal : List Logged) (node : Node) (w : KeptWork) → Now NoneDue o s journal →
+    Came_so o journal (next_number s) node w (writes (arrived (next_number s) node w) s)
 came o s journal node w h = record {
   now = wrote NoneDue o s next journal e h.schedule state
-      (came_so NoneDue o s journal n node w after_it.0 (sent_if (is_remote node) n w s.to_a) refl h.inv (comes (is_remote node)))
+      (came_so NoneDue o s journal n node w after_it.0 (sent_if (is_remote node) n w s.to_a) refl h.inv
+      (comes (is_remote node)))
       h.schedule.worked (untimed o journal e refl);
-  came = ap (λ (t : State). numbered n t.arrivals) state ∙ numbered_last n s.arrivals (record { node = node; work = w }) refl;
+  came = ap (λ (t : State). numbered n t.arrivals) state ∙ numbered_last n s.arrivals
+      (record { node = node; work = w }) refl;
   fresh = λ k. subst (λ (t : State). Fresh t (journal ++ e ∷ []) n) (sym state) (record {
     untouched = untouched;
     unasked = subst (λ i. IsAsk n (sent_if i n w s.to_a) → ⊥) (sym k) new;
@@ -107,7 +114,8 @@ came o s journal node w h = record {
     e : Logged
     e = arrived n node w
 
-    after_it : (room : Room) × (after s e ≡ came_with s (record { node = node; work = w }) room (sent_if (is_remote node) n w s.to_a))
+    after_it : (room : Room)
+        × (after s e ≡ came_with s (record { node = node; work = w }) room (sent_if (is_remote node) n w s.to_a))
     after_it = after_arrived n node w s
 
     next : State
@@ -123,18 +131,23 @@ came o s journal node w h = record {
     new a = let b = h.inv.frame.books.below n a in omega (arith, b.1)
 
     books : Books (journal ++ e ∷ []) (s.arrivals ++ record { node = node; work = w } ∷ []) s.tasks s.to_a
-    books = books_came journal s.arrivals s.tasks s.to_a (record { node = node; work = w }) e (λ m z. z) h.inv.frame.books
+    books = books_came journal s.arrivals s.tasks s.to_a (record { node = node; work = w }) e
+        (λ m z. z) h.inv.frame.books
 
     comes : (t : Bool) → Comes s (journal ++ e ∷ []) (sent_if t n w s.to_a) n (record { node = node; work = w })
     comes false = record { books = books; gone = λ m z. z }
     comes true = record {
-      books = books_ask (journal ++ e ∷ []) (s.arrivals ++ record { node = node; work = w } ∷ []) s.tasks s.to_a (message (kind_of w) n) books untouched new
-          (let size = length-append s.arrivals (record { node = node; work = w } ∷ []) in (omega arith, omega (arith, size)));
+      books = books_ask (journal ++ e ∷ []) (s.arrivals ++ record { node = node; work = w } ∷ []) s.tasks s.to_a
+          (message (kind_of w) n) books untouched new
+          (let size = length-append s.arrivals (record { node = node; work = w } ∷ []) in
+          (omega arith, omega (arith, size)));
       gone = λ m z. sent_other is_end m s.to_a (message (kind_of w) n) (ends_nothing w) z;
     }
 
-arrives_so : (laws : Laws) (o : Opening) (s : State) (journal : List Logged) (node : Node) (w : KeptWork) → Now NoneDue o s journal → After NoneDue o journal (arriving_at node w (next_number s) s).turn
-arrives_so laws o s journal node w h = arriving_by (After NoneDue o journal) node w n s (λ there. (came o s journal node w h).now) (taken w)
+arrives_so : (laws : Laws) (o : Opening) (s : State) (journal : List Logged) (node : Node) (w : KeptWork) →
+    Now NoneDue o s journal → After NoneDue o journal (arriving_at node w (next_number s) s).turn
+arrives_so laws o s journal node w h =
+    arriving_by (After NoneDue o journal) node w n s (λ there. (came o s journal node w h).now) (taken w)
   where
     n : ℕ
     n = next_number s
@@ -143,26 +156,43 @@ arrives_so laws o s journal node w h = arriving_by (After NoneDue o journal) nod
     taken (work.Cmd c) here =
         let first : Turn = writes (arrived n node (work.Cmd c)) s in
         let k = came o s journal node (work.Cmd c) h in
-        then_so NoneDue o journal first (entering n c) (entering_so o first.state (journal ++ first.journal) n node c k.now (k.fresh here) k.came)
+        then_so NoneDue o journal first (entering n c)
+        (entering_so o first.state (journal ++ first.journal) n node c k.now (k.fresh here) k.came)
     taken (work.Ask ask) here =
         let first : Turn = writes (arrived n node (work.Ask ask)) s in
         let k = came o s journal node (work.Ask ask) h in
-        then_so NoneDue o journal first (asking n ask) (asking_so laws o first.state (journal ++ first.journal) n node ask k.now (k.fresh here) k.came)
+        then_so NoneDue o journal first (asking n ask)
+        (asking_so laws o first.state (journal ++ first.journal) n node ask k.now (k.fresh here) k.came)
 
-arriving_so : (laws : Laws) (o : Opening) (s : State) (journal : List Logged) (node : Node) (w : KeptWork) → Now NoneDue o s journal → After NoneDue o journal (arriving node w s).turn
+arriving_so : (laws : Laws) (o : Opening) (s : State) (journal : List Logged) (node : Node) (w : KeptWork) →
+    Now NoneDue o s journal → After NoneDue o journal (arriving node w s).turn
 arriving_so laws o s journal node w h = go (has_room_for w s)
   where
-    go : (t : Bool) → After NoneDue o journal (cond {A = Done} t (arriving_at node w (next_number s) s) (record { turn = nothing s; answer = answer.NoRoom w })).turn
+    go : (t : Bool) → After NoneDue o journal
+        (cond {A = Done} t (arriving_at node w (next_number s) s)
+        (record { turn = nothing s; answer = answer.NoRoom w })).turn
     go true = arrives_so laws o s journal node w h
     go false = stays_so NoneDue o s journal h
 
 -- Messages
 
 -- a message is delivered
-delivered_so : (P : ℕ → ℕ → Type 0) (o : Opening) (s : State) (journal : List Logged) (node : Node) (k : Kind2) (n : ℕ) → Inv P o s journal → Inv P o s (journal ++ told (event.Deliver node k n) ∷ [])
+delivered_so : (P : ℕ → ℕ → Type 0) (o : Opening) (s : State) (journal : List Logged) (node : Node) (k : Kind2)
+    (n : ℕ) → Inv P o s journal → Inv P o s (journal ++ told (event.Deliver node k n) ∷ [])
 delivered_so P o s journal node k n h = record {
   frame = record {
-    each = each_more (LawfulAt o) [] journal e h.frame.each (record { once = λ m z. absurd (cc); typed = record { work = tt; by = tt; closed = tt }; orderly = tt; reorders = tt; plan = tt; prefix = tt; cells = tt; sound = tt; legal = λ r. tt });
+    each = each_more (LawfulAt o) [] journal e h.frame.each
+        (record {
+          once = λ m z. absurd (cc);
+          typed = record { work = tt; by = tt; closed = tt };
+          orderly = tt;
+          reorders = tt;
+          plan = tt;
+          prefix = tt;
+          cells = tt;
+          sound = tt;
+          legal = λ r. tt;
+        });
     works = h.frame.works ∙ sym (works_in-none journal e refl);
     size = h.frame.size;
     books = books_function journal s.arrivals s.tasks s.to_a e h.frame.books (λ m. refl) (λ y hy z. z) (λ m z i. i);
@@ -177,7 +207,8 @@ delivered_so P o s journal node k n h = record {
     e : Logged
     e = told (event.Deliver node k n)
 
-popped_a : (P : ℕ → ℕ → Type 0) (o : Opening) (s : State) (journal : List Logged) (m : Message) (ms : List Message) → s.to_a ≡ m ∷ ms → Inv P o s journal → Inv P o (record s { to_a = ms }) journal
+popped_a : (P : ℕ → ℕ → Type 0) (o : Opening) (s : State) (journal : List Logged) (m : Message) (ms : List Message) →
+    s.to_a ≡ m ∷ ms → Inv P o s journal → Inv P o (record s { to_a = ms }) journal
 popped_a P o s journal m ms e h = record {
   frame = record {
     each = h.frame.each;
@@ -185,14 +216,16 @@ popped_a P o s journal m ms e h = record {
     size = h.frame.size;
     books = books_pop journal s.arrivals s.tasks m ms (subst (λ q. Books journal s.arrivals s.tasks q) e h.frame.books);
     orders = h.frame.orders;
-    opens = opens_a P journal s.arrivals s.tasks s.functions s.to_a ms s.to_b (λ n k. h.frame.opens.gone n (subst (λ q. Sent is_end n q) (sym e) (inr k))) h.frame.opens;
+    opens = opens_a P journal s.arrivals s.tasks s.functions s.to_a ms s.to_b
+        (λ n k. h.frame.opens.gone n (subst (λ q. Sent is_end n q) (sym e) (inr k))) h.frame.opens;
   };
   rules = h.rules;
   cells = record { blocks = h.cells.blocks; gained = h.cells.gained; ungained = h.cells.ungained };
   holds = h.holds;
 }
 
-popped_b : (P : ℕ → ℕ → Type 0) (o : Opening) (s : State) (journal : List Logged) (m : Message) (ms : List Message) → s.to_b ≡ m ∷ ms → Inv P o s journal → Inv P o (record s { to_b = ms }) journal
+popped_b : (P : ℕ → ℕ → Type 0) (o : Opening) (s : State) (journal : List Logged) (m : Message) (ms : List Message) →
+    s.to_b ≡ m ∷ ms → Inv P o s journal → Inv P o (record s { to_b = ms }) journal
 popped_b P o s journal m ms e h = record {
   frame = record {
     each = h.frame.each;
@@ -200,7 +233,8 @@ popped_b P o s journal m ms e h = record {
     size = h.frame.size;
     books = h.frame.books;
     orders = h.frame.orders;
-    opens = opens_b P journal s.arrivals s.tasks s.functions s.to_a s.to_b ms (λ n f k. subst (λ q. IsStop n f q) (sym e) (inr k)) h.frame.opens;
+    opens = opens_b P journal s.arrivals s.tasks s.functions s.to_a s.to_b ms
+        (λ n f k. subst (λ q. IsStop n f q) (sym e) (inr k)) h.frame.opens;
   };
   rules = h.rules;
   cells = record { blocks = h.cells.blocks; gained = h.cells.gained; ungained = h.cells.ungained };
@@ -208,7 +242,9 @@ popped_b P o s journal m ms e h = record {
 }
 
 -- no function awaits a command that has its entry
-awaited_so : (P : ℕ → ℕ → Type 0) (o : Opening) (s : State) (journal : List Logged) (n : ℕ) → has (is_entry n) journal ≡ true → Inv P o s journal → Inv P o (record s { functions = map (awaits_no_more n) s.functions }) journal
+awaited_so : (P : ℕ → ℕ → Type 0) (o : Opening) (s : State) (journal : List Logged) (n : ℕ) →
+    has (is_entry n) journal ≡ true → Inv P o s journal →
+    Inv P o (record s { functions = map (awaits_no_more n) s.functions }) journal
 awaited_so P o s journal n over h = record {
   frame = record {
     each = h.frame.each;
@@ -217,7 +253,8 @@ awaited_so P o s journal n over h = record {
     books = h.frame.books;
     orders = h.frame.orders;
     opens = opens_no_longer P journal s.arrivals s.tasks s.functions s.to_a s.to_b n over
-        (λ x hx a k. both_ways (is_active x.stage) (over_inactive x.stage (entry_over P o s journal h.frame x hx (subst (λ m. has (is_entry m) journal ≡ true) (sym k) over))) a) h.frame.opens;
+        (λ x hx a k. both_ways (is_active x.stage)
+        (over_inactive x.stage (entry_over P o s journal h.frame x hx (subst (λ m. has (is_entry m) journal ≡ true) (sym k) over))) a) h.frame.opens;
   };
   rules = h.rules;
   cells = record { blocks = h.cells.blocks; gained = h.cells.gained; ungained = h.cells.ungained };
@@ -227,7 +264,8 @@ awaited_so P o s journal n over h = record {
 -- To A
 
 -- a message that is no end leaves only the list
-pub after_a : (k : Kind2) (n : ℕ) (m : Message) (ms : List Message) (s : State) → is_end k ≡ false → s.to_a ≡ m ∷ ms → after s (told (event.Deliver A k n)) ≡ record s { to_a = ms }
+pub after_a : (k : Kind2) (n : ℕ) (m : Message) (ms : List Message) (s : State) → is_end k ≡ false → s.to_a ≡ m ∷ ms →
+    after s (told (event.Deliver A k n)) ≡ record s { to_a = ms }
 unfolding after
 after_a kind.Ask n m ms s no_end e = ap (λ l. record s { to_a = drop 1 l }) e
 after_a kind.Function n m ms s no_end e = ap (λ l. record s { to_a = drop 1 l }) e
@@ -238,7 +276,8 @@ after_a kind.Stop n m ms s no_end e = ap (λ l. record s { to_a = drop 1 l }) e
 after_a kind.Reply n m ms s no_end e = ap (λ l. record s { to_a = drop 1 l }) e
 after_a kind.Response n m ms s no_end e = ap (λ l. record s { to_a = drop 1 l }) e
 
-pub after_end : (k : Kind2) (n : ℕ) (m : Message) (ms : List Message) (s : State) → is_end k ≡ true → s.to_a ≡ m ∷ ms → after s (told (event.Deliver A k n)) ≡ gone_at_b n (record s { to_a = ms })
+pub after_end : (k : Kind2) (n : ℕ) (m : Message) (ms : List Message) (s : State) → is_end k ≡ true → s.to_a ≡ m ∷ ms →
+    after s (told (event.Deliver A k n)) ≡ gone_at_b n (record s { to_a = ms })
 unfolding after
 after_end kind.Finish n m ms s is e = ap (λ l. gone_at_b n (record s { to_a = drop 1 l })) e
 after_end kind.Stopped n m ms s is e = ap (λ l. gone_at_b n (record s { to_a = drop 1 l })) e
@@ -249,7 +288,8 @@ after_end kind.Stop n m ms s is e = absurd (cc)
 after_end kind.Reply n m ms s is e = absurd (cc)
 after_end kind.Response n m ms s is e = absurd (cc)
 
-comes_to_a : (laws : Laws) (o : Opening) (s : State) (journal : List Logged) (m : Message) (ms : List Message) → s.to_a ≡ m ∷ ms → Now NoneDue o s journal → After NoneDue o journal (delivering_first A (m ∷ ms) s).turn
+comes_to_a : (laws : Laws) (o : Opening) (s : State) (journal : List Logged) (m : Message) (ms : List Message) →
+    s.to_a ≡ m ∷ ms → Now NoneDue o s journal → After NoneDue o journal (delivering_first A (m ∷ ms) s).turn
 comes_to_a laws o s journal m ms to h = then_so NoneDue o journal first (coming_to A m) (go m.kind refl)
   where
     e : Logged
@@ -262,7 +302,8 @@ comes_to_a laws o s journal m ms to h = then_so NoneDue o journal first (coming_
     t = after s e
 
     left : Inv NoneDue o (record s { to_a = ms }) (journal ++ e ∷ [])
-    left = delivered_so NoneDue o (record s { to_a = ms }) journal A m.kind m.no (popped_a NoneDue o s journal m ms to h.inv)
+    left = delivered_so NoneDue o (record s { to_a = ms }) journal A m.kind m.no
+        (popped_a NoneDue o s journal m ms to h.inv)
 
     quietly : is_end m.kind ≡ false → Now NoneDue o t (journal ++ e ∷ [])
     quietly no_end = wrote NoneDue o s (record s { to_a = ms }) journal e h.schedule
@@ -275,26 +316,37 @@ comes_to_a laws o s journal m ms to h = then_so NoneDue o journal first (coming_
     books = subst (λ q. Books journal s.arrivals s.tasks q) to h.inv.frame.books
 
     fresh : is_arrival m.kind ≡ true → is_end m.kind ≡ false → Fresh t (journal ++ e ∷ []) m.no
-    fresh on_its_way no_end = subst (λ (q : State). Fresh q (journal ++ e ∷ []) m.no) (sym (after_a m.kind m.no m ms s no_end to)) (record {
-      untouched = untouched_more m.no journal e (books.fresh m.no (inr (inl (on_its_way, refl)))) (quiet m.no e.event (λ z. z));
-      unasked = books.once.0 on_its_way;
-      within = (books.below m.no (inl (on_its_way, refl))).1;
-    })
+    fresh on_its_way no_end =
+        subst (λ (q : State). Fresh q (journal ++ e ∷ []) m.no) (sym (after_a m.kind m.no m ms s no_end to)) (record {
+          untouched =
+              untouched_more m.no journal e (books.fresh m.no (inr (inl (on_its_way, refl))))
+              (quiet m.no e.event (λ z. z));
+          unasked = books.once.0 on_its_way;
+          within = (books.below m.no (inl (on_its_way, refl))).1;
+        })
 
-    takes : is_arrival m.kind ≡ true → is_end m.kind ≡ false → (found : Option Arrival) → arrival_of m.no t ≡ found → After NoneDue o (journal ++ e ∷ []) (coming_in m.no found t)
+    takes : is_arrival m.kind ≡ true → is_end m.kind ≡ false → (found : Option Arrival) → arrival_of m.no t ≡ found →
+        After NoneDue o (journal ++ e ∷ []) (coming_in m.no found t)
     takes on_its_way no_end None f = stays no_end
     takes on_its_way no_end (Some a) f = by a.work refl
       where
         by : (w : KeptWork) → a.work ≡ w → After NoneDue o (journal ++ e ∷ []) (taking_in m.no w t)
-        by (work.Cmd c) k = entering_so o t (journal ++ e ∷ []) m.no a.node c (quietly no_end) (fresh on_its_way no_end) (f ∙ ap (λ w. Some (record { node = a.node; work = w })) k)
-        by (work.Ask ask) k = asking_so laws o t (journal ++ e ∷ []) m.no a.node ask (quietly no_end) (fresh on_its_way no_end) (f ∙ ap (λ w. Some (record { node = a.node; work = w })) k)
+        by (work.Cmd c) k =
+            entering_so o t (journal ++ e ∷ []) m.no a.node c (quietly no_end) (fresh on_its_way no_end)
+            (f ∙ ap (λ w. Some (record { node = a.node; work = w })) k)
+        by (work.Ask ask) k =
+            asking_so laws o t (journal ++ e ∷ []) m.no a.node ask (quietly no_end) (fresh on_its_way no_end)
+            (f ∙ ap (λ w. Some (record { node = a.node; work = w })) k)
 
     gone : is_end m.kind ≡ true → Now NoneDue o t (journal ++ e ∷ [])
     gone is =
-        let over : has (is_entry m.no) journal ≡ true = h.inv.frame.opens.gone m.no (subst (λ q. Sent is_end m.no q) (sym to) (inl (is, refl))) in
+        let over : has (is_entry m.no) journal ≡ true =
+        h.inv.frame.opens.gone m.no (subst (λ q. Sent is_end m.no q) (sym to) (inl (is, refl))) in
         let over' : has (is_entry m.no) (journal ++ e ∷ []) ≡ true = has_stays (is_entry m.no) journal e over in
-        wrote NoneDue o s (gone_at_b m.no (record s { to_a = ms })) journal e h.schedule (after_end m.kind m.no m ms s is to)
-        (awaited_so NoneDue o (record s { to_a = ms; tasks = without_task m.no s.tasks }) (journal ++ e ∷ []) m.no over' (gone_so NoneDue o (record s { to_a = ms }) (journal ++ e ∷ []) m.no over' left))
+        wrote NoneDue o s (gone_at_b m.no (record s { to_a = ms })) journal e h.schedule
+        (after_end m.kind m.no m ms s is to)
+        (awaited_so NoneDue o (record s { to_a = ms; tasks = without_task m.no s.tasks }) (journal ++ e ∷ []) m.no over'
+        (gone_so NoneDue o (record s { to_a = ms }) (journal ++ e ∷ []) m.no over' left))
         (worked_without o.blocks m.no s.tasks h.schedule.worked) (untimed o journal e refl)
 
     closes : is_end m.kind ≡ true → After NoneDue o (journal ++ e ∷ []) (closing_all (open_numbers t) t)
@@ -322,7 +374,8 @@ is_grant_kind kind.Stop = false
 is_grant_kind kind.Reply = false
 is_grant_kind kind.Response = false
 
-pub after_b : (k : Kind2) (n : ℕ) (m : Message) (ms : List Message) (s : State) → is_grant_kind k ≡ false → s.to_b ≡ m ∷ ms → after s (told (event.Deliver B k n)) ≡ record s { to_b = ms }
+pub after_b : (k : Kind2) (n : ℕ) (m : Message) (ms : List Message) (s : State) → is_grant_kind k ≡ false →
+    s.to_b ≡ m ∷ ms → after s (told (event.Deliver B k n)) ≡ record s { to_b = ms }
 unfolding after
 after_b kind.Grant n m ms s no_grant e = absurd (cc)
 after_b kind.Ask n m ms s no_grant e = ap (λ l. record s { to_b = drop 1 l }) e
@@ -334,15 +387,19 @@ after_b kind.Reply n m ms s no_grant e = ap (λ l. record s { to_b = drop 1 l })
 after_b kind.Response n m ms s no_grant e = ap (λ l. record s { to_b = drop 1 l }) e
 
 -- a granted command stands there
-granted_so : (P : ℕ → ℕ → Type 0) (o : Opening) (s : State) (journal : List Logged) (x : Task) → Has s.tasks x → x.stage ≡ Granted → Inv P o s journal → Inv P o (record s { tasks = with_task (at_stage (There 0 []) x) s.tasks }) journal
+granted_so : (P : ℕ → ℕ → Type 0) (o : Opening) (s : State) (journal : List Logged) (x : Task) → Has s.tasks x →
+    x.stage ≡ Granted → Inv P o s journal → Inv P o
+    (record s { tasks = with_task (at_stage (There 0 []) x) s.tasks }) journal
 granted_so P o s journal x hx st h = record {
   frame = record {
     each = h.frame.each;
     works = h.frame.works;
     size = h.frame.size;
-    books = books_quietly journal s.arrivals s.tasks s.to_a x (There 0 []) h.frame.books hx (ap is_over st) (ap is_waiting st) (ap done_at st);
+    books = books_quietly journal s.arrivals s.tasks s.to_a x (There 0 []) h.frame.books hx (ap is_over st)
+        (ap is_waiting st) (ap done_at st);
     orders = orders_turns journal s.tasks x (There 0 []) hx refl h.frame.orders;
-    opens = opens_turns P journal s.arrivals s.tasks s.functions s.to_a s.to_b x (There 0 []) hx (λ a. inl (record { task = x; has = hx; no = refl; command = refl; active = ap is_active st; remote = λ r. ap is_at_b st })) h.frame.opens;
+    opens = opens_turns P journal s.arrivals s.tasks s.functions s.to_a s.to_b x (There 0 []) hx
+        (λ a. inl (record { task = x; has = hx; no = refl; command = refl; active = ap is_active st; remote = λ r. ap is_at_b st })) h.frame.opens;
   };
   rules = granted_rules o.blocks (serial_disk o journal) s.control s.tasks x h.rules hx st;
   cells = record {
@@ -359,7 +416,10 @@ granted_so P o s journal x hx st h = record {
   holds = λ r. granted_held o.blocks (serial_disk o journal) s.blocks s.tasks x (h.holds r) h.rules.single hx st;
 }
 
-pub after_grant : (n : ℕ) (m : Message) (ms : List Message) (x : Task) (s : State) → s.to_b ≡ m ∷ ms → task_of n s.tasks ≡ Some x → x.stage ≡ Granted → after s (told (event.Deliver B kind.Grant n)) ≡ record s { to_b = ms; tasks = with_task (at_stage (There 0 []) x) s.tasks }
+pub after_grant : (n : ℕ) (m : Message) (ms : List Message) (x : Task) (s : State) → s.to_b ≡ m ∷ ms →
+    task_of n s.tasks ≡ Some x → x.stage ≡ Granted →
+    after s (told (event.Deliver B kind.Grant n))
+    ≡ record s { to_b = ms; tasks = with_task (at_stage (There 0 []) x) s.tasks }
 unfolding after
 after_grant n m ms x s e f st =
     ap (λ l. grant_to (task_of n s.tasks) (record s { to_b = drop 1 l })) e
@@ -367,27 +427,36 @@ after_grant n m ms x s e f st =
     ∙ ap (λ stage. begun_at_b stage x (record s { to_b = ms })) st
 
 -- no command stands at its grant
-pub after_no_grant : (n : ℕ) (m : Message) (ms : List Message) (s : State) → s.to_b ≡ m ∷ ms → ((x : Task) → task_of n s.tasks ≡ Some x → x.stage ≡ Granted → ⊥) → after s (told (event.Deliver B kind.Grant n)) ≡ record s { to_b = ms }
+pub after_no_grant : (n : ℕ) (m : Message) (ms : List Message) (s : State) → s.to_b ≡ m ∷ ms →
+    ((x : Task) → task_of n s.tasks ≡ Some x → x.stage ≡ Granted → ⊥) →
+    after s (told (event.Deliver B kind.Grant n)) ≡ record s { to_b = ms }
 unfolding after
-after_no_grant n m ms s e none = ap (λ l. grant_to (task_of n s.tasks) (record s { to_b = drop 1 l })) e ∙ go (task_of n s.tasks) refl
+after_no_grant n m ms s e none =
+    ap (λ l. grant_to (task_of n s.tasks) (record s { to_b = drop 1 l })) e ∙ go (task_of n s.tasks) refl
   where
-    at : (x : Task) → task_of n s.tasks ≡ Some x → (stage : Stage) → x.stage ≡ stage → begun_at_b stage x (record s { to_b = ms }) ≡ record s { to_b = ms }
+    at : (x : Task) → task_of n s.tasks ≡ Some x → (stage : Stage) → x.stage ≡ stage →
+        begun_at_b stage x (record s { to_b = ms }) ≡ record s { to_b = ms }
     at x f Granted st = absurd (none x f st)
     at x f Waiting st = refl
     at x f (Here d g) st = refl
     at x f (There d g) st = refl
     at x f Over st = refl
 
-    go : (found : Option Task) → task_of n s.tasks ≡ found → grant_to found (record s { to_b = ms }) ≡ record s { to_b = ms }
+    go : (found : Option Task) → task_of n s.tasks ≡ found →
+        grant_to found (record s { to_b = ms }) ≡ record s { to_b = ms }
     go None f = refl
     go (Some x) f = at x f x.stage refl
 
-after_stopped : (x : Task) (puts by : ℕ) (told_so : Bool) (done : ℕ) (got : List ℕ) (s : State) → task_of x.no s.tasks ≡ Some x → x.stage ≡ There done got →
-    after s (told (event.Cut x.no puts (By by) told_so)) ≡ over_at_b kind.Stopped x (record s { functions = noted by x.no s.functions })
+after_stopped : (x : Task) (puts by : ℕ) (told_so : Bool) (done : ℕ) (got : List ℕ) (s : State) →
+    task_of x.no s.tasks ≡ Some x → x.stage ≡ There done got →
+    after s (told (event.Cut x.no puts (By by) told_so)) ≡ over_at_b kind.Stopped x
+    (record s { functions = noted by x.no s.functions })
 unfolding after
-after_stopped x puts by told_so done got s e st = ap (λ f. after_cut (By by) f s) e ∙ ap (λ stage. cut_from (By by) stage x s) st
+after_stopped x puts by told_so done got s e st =
+    ap (λ f. after_cut (By by) f s) e ∙ ap (λ stage. cut_from (By by) stage x s) st
 
-comes_to_b : (laws : Laws) (o : Opening) (s : State) (journal : List Logged) (m : Message) (ms : List Message) → s.to_b ≡ m ∷ ms → Now NoneDue o s journal → After NoneDue o journal (delivering_first B (m ∷ ms) s).turn
+comes_to_b : (laws : Laws) (o : Opening) (s : State) (journal : List Logged) (m : Message) (ms : List Message) →
+    s.to_b ≡ m ∷ ms → Now NoneDue o s journal → After NoneDue o journal (delivering_first B (m ∷ ms) s).turn
 comes_to_b laws o s journal m ms to h = then_so NoneDue o journal first (coming_to B m) (go m.kind refl)
   where
     e : Logged
@@ -400,7 +469,8 @@ comes_to_b laws o s journal m ms to h = then_so NoneDue o journal first (coming_
     t = after s e
 
     left : Inv NoneDue o (record s { to_b = ms }) (journal ++ e ∷ [])
-    left = delivered_so NoneDue o (record s { to_b = ms }) journal B m.kind m.no (popped_b NoneDue o s journal m ms to h.inv)
+    left = delivered_so NoneDue o (record s { to_b = ms }) journal B m.kind m.no
+        (popped_b NoneDue o s journal m ms to h.inv)
 
     stays : Now NoneDue o t (journal ++ e ∷ []) → After NoneDue o (journal ++ e ∷ []) (nothing t)
     stays now = stays_so NoneDue o t (journal ++ e ∷ []) now
@@ -412,20 +482,29 @@ comes_to_b laws o s journal m ms to h = then_so NoneDue o journal first (coming_
     grants : m.kind ≡ kind.Grant → Now NoneDue o t (journal ++ e ∷ [])
     grants k = found (task_of m.no s.tasks) refl
       where
-        grant : (q : State) → after s (told (event.Deliver B kind.Grant m.no)) ≡ q → Inv NoneDue o q (journal ++ e ∷ []) → Worked o.blocks q.tasks → Now NoneDue o t (journal ++ e ∷ [])
+        grant : (q : State) → after s (told (event.Deliver B kind.Grant m.no)) ≡ q →
+            Inv NoneDue o q (journal ++ e ∷ []) → Worked o.blocks q.tasks → Now NoneDue o t (journal ++ e ∷ [])
         grant q state inv worked = wrote NoneDue o s q journal e h.schedule
             (ap (λ i. after s (told (event.Deliver B i m.no))) k ∙ state) inv worked (untimed o journal e refl)
 
-        none : ((x : Task) → task_of m.no s.tasks ≡ Some x → x.stage ≡ Granted → ⊥) → Now NoneDue o t (journal ++ e ∷ [])
+        none : ((x : Task) → task_of m.no s.tasks ≡ Some x → x.stage ≡ Granted → ⊥) →
+            Now NoneDue o t (journal ++ e ∷ [])
         none f = grant (record s { to_b = ms }) (after_no_grant m.no m ms s to f) left h.schedule.worked
 
-        other : (x : Task) (stage : Stage) → task_of m.no s.tasks ≡ Some x → x.stage ≡ stage → (stage ≡ Granted → ⊥) → Now NoneDue o t (journal ++ e ∷ [])
-        other x stage f st ne = none (λ y g i. let same : Some x ≡ Some y = sym f ∙ g in ne (sym st ∙ ap (λ (z : Task). z.stage) (same_Some x y same) ∙ i))
+        other : (x : Task) (stage : Stage) → task_of m.no s.tasks ≡ Some x → x.stage ≡ stage → (stage ≡ Granted → ⊥) →
+            Now NoneDue o t (journal ++ e ∷ [])
+        other x stage f st ne =
+            none (λ y g i. let same : Some x ≡ Some y = sym f ∙ g in
+            ne (sym st ∙ ap (λ (z : Task). z.stage) (same_Some x y same) ∙ i))
 
-        at : (x : Task) → task_of m.no s.tasks ≡ Some x → (stage : Stage) → x.stage ≡ stage → Now NoneDue o t (journal ++ e ∷ [])
-        at x f Granted st = grant (record s { to_b = ms; tasks = with_task (at_stage (There 0 []) x) s.tasks }) (after_grant m.no m ms x s to f st)
+        at : (x : Task) → task_of m.no s.tasks ≡ Some x → (stage : Stage) → x.stage ≡ stage →
+            Now NoneDue o t (journal ++ e ∷ [])
+        at x f Granted st =
+            grant (record s { to_b = ms; tasks = with_task (at_stage (There 0 []) x) s.tasks })
+            (after_grant m.no m ms x s to f st)
             (granted_so NoneDue o (record s { to_b = ms }) (journal ++ e ∷ []) x (has_found m.no s.tasks x f).0 st left)
-            (worked_with o.blocks s.tasks (at_stage (There 0 []) x) h.schedule.worked (h.schedule.worked x (has_found m.no s.tasks x f).0 (ap is_waiting st)).0 (omega arith))
+            (worked_with o.blocks s.tasks (at_stage (There 0 []) x) h.schedule.worked
+            (h.schedule.worked x (has_found m.no s.tasks x f).0 (ap is_waiting st)).0 (omega arith))
         at x f Waiting st = other x Waiting f st (λ z. cc)
         at x f (Here d g) st = other x (Here d g) f st (λ z. cc)
         at x f (There d g) st = other x (There d g) f st (λ z. cc)
@@ -435,7 +514,8 @@ comes_to_b laws o s journal m ms to h = then_so NoneDue o journal first (coming_
         found None f = none (λ x g i. cc)
         found (Some x) f = at x f x.stage refl
 
-    stops : m.kind ≡ kind.Stop → (found : Option Task) → task_of m.no t.tasks ≡ found → After NoneDue o (journal ++ e ∷ []) (stopping found m t)
+    stops : m.kind ≡ kind.Stop → (found : Option Task) → task_of m.no t.tasks ≡ found →
+        After NoneDue o (journal ++ e ∷ []) (stopping found m t)
     stops k None f = stays (quietly (ap is_grant_kind k))
     stops k (Some x) f = at x.stage refl
       where
@@ -454,22 +534,31 @@ comes_to_b laws o s journal m ms to h = then_so NoneDue o journal first (coming_
         at Granted st = stays now
         at Over st = stays now
         at (There d g) st =
-            let was = h.inv.frame.opens.stops m.no m.by x (subst (λ q. IsStop m.no m.by q) (sym to) (inl (ap is_stop k, refl, refl))) (subst (λ (q : State). Has q.tasks x) state hx.0) hx.1 (ap is_at_b st) in
-            let asked = now.inv.frame.opens.asked was.0 (subst (λ (q : State). HasOpen q.functions was.0) (sym state) was.1) in
+            let was =
+            h.inv.frame.opens.stops m.no m.by x
+            (subst (λ q. IsStop m.no m.by q) (sym to) (inl (ap is_stop k, refl, refl)))
+            (subst (λ (q : State). Has q.tasks x) state hx.0) hx.1 (ap is_at_b st) in
+            let asked =
+            now.inv.frame.opens.asked was.0 (subst (λ (q : State). HasOpen q.functions was.0) (sym state) was.1) in
             let l : Logged = told (event.Cut x.no (puts_of x t) (By m.by) m.told) in
             let j : List Logged = journal ++ e ∷ [] in
             let over : Inv NoneDue o (over_state t x (noted m.by x.no t.functions) t.control t.blocks) (j ++ l ∷ []) =
-            subst (λ n. Inv NoneDue o (over_state t x (noted m.by x.no t.functions) t.control t.blocks) (j ++ told (event.Cut x.no (puts_at n x) (By m.by) m.told) ∷ [])) (sym now.inv.frame.size)
+            subst (λ n. Inv NoneDue o (over_state t x (noted m.by x.no t.functions) t.control t.blocks)
+            (j ++ told (event.Cut x.no (puts_at n x) (By m.by) m.told) ∷ [])) (sym now.inv.frame.size)
             (by_so NoneDue o t j x m.by asked.node was.0.ask m.told now.inv hx.0 (ap is_over st)
             (subst (λ n. numbered n t.arrivals ≡ Some (record { node = asked.node; work = work.Ask was.0.ask })) was.2 asked.came) was.4
-            (subst (λ n. has (is_asked n) j ≡ true) was.2 asked.asking) (subst (λ n. has (is_entry n) j ≡ false) was.2 asked.entry)) in
+            (subst (λ n. has (is_asked n) j ≡ true) was.2 asked.asking)
+            (subst (λ n. has (is_entry n) j ≡ false) was.2 asked.entry)) in
             wrote NoneDue o t (over_at_b kind.Stopped x (record t { functions = noted m.by x.no t.functions }))
             j l now.schedule
             (after_stopped x (puts_of x t) m.by m.told d g t (found_of t.tasks x now.inv.rules.single hx.0) st)
-            (tells_so NoneDue o t (j ++ l ∷ []) x kind.Stopped (noted m.by x.no t.functions) t.control t.blocks refl (has_now (is_entry x.no) j l (eq-eqb x.no x.no refl)) over)
-            (worked_with o.blocks t.tasks (at_stage Over x) now.schedule.worked (now.schedule.worked x hx.0 (ap is_waiting st)).0 (omega arith))
+            (tells_so NoneDue o t (j ++ l ∷ []) x kind.Stopped (noted m.by x.no t.functions) t.control t.blocks refl
+            (has_now (is_entry x.no) j l (eq-eqb x.no x.no refl)) over)
+            (worked_with o.blocks t.tasks (at_stage Over x) now.schedule.worked
+            (now.schedule.worked x hx.0 (ap is_waiting st)).0 (omega arith))
             (untimed_by o j l x.no (puts_of x t) m.by m.told was.0.ask refl
-            (function_in NoneDue o t j m.by asked.node was.0.ask now.inv.frame (subst (λ n. numbered n t.arrivals ≡ Some (record { node = asked.node; work = work.Ask was.0.ask })) was.2 asked.came)))
+            (function_in NoneDue o t j m.by asked.node was.0.ask now.inv.frame
+            (subst (λ n. numbered n t.arrivals ≡ Some (record { node = asked.node; work = work.Ask was.0.ask })) was.2 asked.came)))
 
     go : (k : Kind2) → m.kind ≡ k → After NoneDue o (journal ++ e ∷ []) (coming_to_b k m t)
     go kind.Stop k = stops k (task_of m.no t.tasks) refl
@@ -481,19 +570,23 @@ comes_to_b laws o s journal m ms to h = then_so NoneDue o journal first (coming_
     go kind.Reply k = stays (quietly (ap is_grant_kind k))
     go kind.Response k = stays (quietly (ap is_grant_kind k))
 
-delivers_so : (laws : Laws) (o : Opening) (s : State) (journal : List Logged) (node : Node) → Now NoneDue o s journal → After NoneDue o journal (delivering node s).turn
+delivers_so : (laws : Laws) (o : Opening) (s : State) (journal : List Logged) (node : Node) → Now NoneDue o s journal →
+    After NoneDue o journal (delivering node s).turn
 delivers_so laws o s journal node h = go node (messages_to node s) refl
   where
-    go : (at : Node) (ms : List Message) → messages_to at s ≡ ms → After NoneDue o journal (delivering_first at ms s).turn
+    go : (at : Node) (ms : List Message) → messages_to at s ≡ ms →
+        After NoneDue o journal (delivering_first at ms s).turn
     go at [] e = stays_so NoneDue o s journal h
     go A (m ∷ ms) e = comes_to_a laws o s journal m ms e h
     go B (m ∷ ms) e = comes_to_b laws o s journal m ms e h
 
 -- All runs
 
-pub acts_so : (laws : Laws) (o : Opening) (s : State) (journal : List Logged) (a : Act) (fault : Option ℕ) → Now NoneDue o s journal → ((n : ℕ) → in_tasks n s.tasks ≤ 1) → After NoneDue o journal (doing s a fault).turn
+pub acts_so : (laws : Laws) (o : Opening) (s : State) (journal : List Logged) (a : Act) (fault : Option ℕ) →
+    Now NoneDue o s journal → ((n : ℕ) → in_tasks n s.tasks ≤ 1) → After NoneDue o journal (doing s a fault).turn
 acts_so laws o s journal (act.Arrive node w) fault h distinct = arriving_so laws o s journal node w h
-acts_so laws o s journal (act.Step number count) fault h distinct = step_so laws o s journal number count fault h distinct
+acts_so laws o s journal (act.Step number count) fault h distinct =
+    step_so laws o s journal number count fault h distinct
 acts_so laws o s journal (act.Deliver node) fault h distinct = delivers_so laws o s journal node h
 acts_so laws o s journal (act.Next count) fault h distinct = go s.to_a s.to_b
   where
@@ -540,14 +633,19 @@ opened_so o = record {
       };
     };
     rules = opened_rules o.blocks (opening_disk o.lun o.blocks) (opened_size o.lun o.blocks);
-    cells = record { blocks = λ n. refl; gained = λ x k. absurd k; ungained = λ n k. record { got = refl; difference = refl } };
+    cells = record {
+      blocks = λ n. refl;
+      gained = λ x k. absurd k;
+      ungained = λ n k. record { got = refl; difference = refl };
+    };
     holds = λ r. opened_held o.blocks (opening_disk o.lun o.blocks);
   };
   schedule = record { at = refl; timely = tt; due = refl; worked = λ x hx. absurd hx };
 }
 
 -- what holds of every run
-pub every_run : (laws : Laws) (o : Opening) (journal : List Logged) → IsRun o journal → Now NoneDue o (replay o journal) journal
+pub every_run : (laws : Laws) (o : Opening) (journal : List Logged) → IsRun o journal →
+    Now NoneDue o (replay o journal) journal
 every_run laws o journal run =
     (run_induction o (λ s es. IsFine n s × Now NoneDue o s es) (fine_opened o, opened_so o)
     (λ s es a fault allowed h. (

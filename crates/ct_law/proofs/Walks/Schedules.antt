@@ -1,6 +1,7 @@
 -- What holds of the schedule between two events: the state is the replay of the journal, nothing is due, and what has
 -- begun moves blocks.
-use Rattle.std.proofs.Common.{◌≡◌, ◌≤◌, ℕ, length, Bool, true, false, List, [], ◌∷◌, ◌++◌, drop, refl, sym, ap, ◌∙◌, subst}
+use Rattle.std.proofs.Common.{◌≡◌, ◌≤◌, ℕ, length, Bool, true, false, List, [], ◌∷◌, ◌++◌, drop, refl, sym, ap, ◌∙◌}
+use Rattle.std.proofs.Common.{subst}
 use Rattle.std.proofs.Common.{⊎_elim, cond}
 use Rattle.std.proofs.lemmas.Bool.{both_ways}
 use Rattle.std.proofs.lemmas.Option.{same_Some}
@@ -61,7 +62,8 @@ worked_queued n tasks w h waits x hx begun =
 -- Timely
 
 abbrev pub TimelyAt : Opening → List Logged → Logged → Type 0
-TimelyAt o before l = IsTimelyAt before (due_of (standings_of o) o before) (due_of (standings_of o) o before).left l.event
+TimelyAt o before l =
+    IsTimelyAt before (due_of (standings_of o) o before) (due_of (standings_of o) o before).left l.event
 
 -- an event at which nothing was due, and behind which nothing is
 pub record IsUntimed (o : Opening) (journal : List Logged) (l : Logged) : Type 0 where
@@ -86,7 +88,8 @@ pub untimed : (o : Opening) (journal : List Logged) (l : Logged) → is_timed l.
 untimed o journal l timed = go l.event refl timed
   where
     Fine : Event → Type 0
-    Fine e = (IsCutByCommand journal e → ⊥) × ((due : Due) → due.left ≡ [] → (due_after (standings_of o) o journal l e due).left ≡ [])
+    Fine e = (IsCutByCommand journal e → ⊥)
+        × ((due : Due) → due.left ≡ [] → (due_after (standings_of o) o journal l e due).left ≡ [])
 
     by : (e : Event) → l.event ≡ e → Fine e → IsUntimed o journal l
     by e is fine = let f = subst Fine (sym is) fine in record { cut = f.0; due = f.1 }
@@ -130,7 +133,8 @@ pub none_of : (cleared : List Bool) (members : List Member) → ((nexus : Nexus)
     → filter (is_of cleared) members ≡ []
 none_of cleared [] none = refl
 none_of cleared (member ∷ members) none =
-    ap (λ b. cond b (member ∷ filter (is_of cleared) members) (filter (is_of cleared) members)) (none member.command.nexus)
+    ap (λ b. cond b (member ∷ filter (is_of cleared) members) (filter (is_of cleared) members))
+    (none member.command.nexus)
     ∙ none_of cleared members none
 
 -- an end of a command that clears no nexus
@@ -165,6 +169,7 @@ goes_on o s now journal l h is worked untimed = record {
   at = sym is ∙ replayed o s journal l h.at;
   timely = each_more (TimelyAt o) [] journal l h.timely
       (subst (λ left. IsTimelyAt journal (due_of (standings_of o) o journal) left l.event) (sym h.due) untimed.cut);
-  due = ap (λ (d : Due). d.left) (due-more (standings_of o) o journal l) ∙ untimed.due (due_of (standings_of o) o journal) h.due;
+  due = ap (λ (d : Due). d.left) (due-more (standings_of o) o journal l) ∙ untimed.due
+      (due_of (standings_of o) o journal) h.due;
   worked = worked;
 }

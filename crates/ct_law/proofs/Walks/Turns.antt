@@ -1,5 +1,6 @@
 -- A command begins, moves and ends: what holds after these turns.
-use Rattle.std.proofs.Common.{◌≡◌, ℕ, zero, suc, ◌+◌, ◌≤◌, inl, inr, Bool, true, false, List, [], ◌∷◌, ◌++◌, Option, Some, None, length, refl, sym, ap, ◌∙◌, subst, arith, eq-eqb, cond, take, drop, slice_get}
+use Rattle.std.proofs.Common.{◌≡◌, ℕ, zero, suc, ◌+◌, ◌≤◌, inl, inr, Bool, true, false, List, [], ◌∷◌, ◌++◌, Option}
+use Rattle.std.proofs.Common.{Some, None, length, refl, sym, ap, ◌∙◌, subst, arith, eq-eqb, cond, take, drop, slice_get}
 use Rattle.std.proofs.Common.{leb-true}
 use Rattle.ct_sense.specs.declared.reply.Reply.{Reply}
 use Rattle.ct_book.specs.declared.event.Event.TheVariants as event
@@ -8,7 +9,8 @@ use Rattle.ct_book.specs.declared.event.Why.TheVariants.{Medium}
 use Rattle.ct_book.specs.declared.event.Logged.{Logged}
 use Rattle.ct_exec.specs.Controls.{is_unrestricted, tells_aborts}
 use Rattle.ct_machine.specs.declared.act.Opening.{Opening}
-use Rattle.ct_machine.specs.States.{Task, Stage, Waiting, Here, Granted, There, Over, Open, State, without_task, with_task, at_stage}
+use Rattle.ct_machine.specs.States.{Task, Stage, Waiting, Here, Granted, There, Over, Open, State, without_task}
+use Rattle.ct_machine.specs.States.{with_task, at_stage}
 use Rattle.ct_machine.specs.Events.Sends.{message, answered}
 use Rattle.ct_machine.specs.Runs.{replay}
 use Rattle.ct_machine.specs.Acts.Entries.{members_of}
@@ -38,7 +40,8 @@ use Rattle.ct_machine.specs.Acts.Steps.{blocked_by, beginning_unless, stepping_a
 use Rattle.ct_machine.specs.Acts.Answers.{Done}
 use Rattle.ct_law.proofs.Lists.Tasks.{has_found}
 use Rattle.ct_law.proofs.Rows.Laws.{Laws, has_operations, IsOnce}
-use Rattle.ct_law.proofs.Walks.Schedules.{Scheduled, Worked, TimelyAt, goes_on, replayed, worked_without, worked_with, untimed, untimed_medium, untimed_end}
+use Rattle.ct_law.proofs.Walks.Schedules.{Scheduled, Worked, TimelyAt, goes_on, replayed, worked_without, worked_with}
+use Rattle.ct_law.proofs.Walks.Schedules.{untimed, untimed_medium, untimed_end}
 use Rattle.ct_law.proofs.Acts.Sends.{in_tasks, in_without}
 use Rattle.ct_law.proofs.Walks.Cleared.{distinct_in, stands_whole}
 use Rattle.ct_law.proofs.Walks.Clears.{Clearing, due_from, stops_so, clears_so}
@@ -52,7 +55,8 @@ use Rattle.ct_law.proofs.Events.Steps.{answers, tells_b}
 use Rattle.ct_law.proofs.Events.Entries.{over_alone, leaves_so, tells_so}
 use Rattle.ct_law.proofs.Events.Moves.{first_event, begun_so, moves_so, moved_so}
 use Rattle.ct_law.proofs.Events.Overs.{ended_so, differed_so, once_ends, medium_so}
-use Rattle.ct_law.proofs.Walks.Walk.{Now, After, NoneDue, stays_so, then_so, wrote, none_found, answered_tasks, answered_still, worked_answered}
+use Rattle.ct_law.proofs.Walks.Walk.{Now, After, NoneDue, stays_so, then_so, wrote, none_found, answered_tasks}
+use Rattle.ct_law.proofs.Walks.Walk.{answered_still, worked_answered}
 use Rattle.std.proofs.Common.{⊎_elim, not}
 use Rattle.std.proofs.lemmas.Bool.{both_ways}
 use Rattle.ct_word.specs.Nexuses.{contains}
@@ -84,11 +88,13 @@ found_of q x single hx = go (task_of x.no q) refl
 
 -- Where a command is over
 
-after_ended_at : (x : Task) (reply : Reply) (s : State) → task_of x.no s.tasks ≡ Some x → after s (replied (event.Ended x.no) reply) ≡ ended_at x.stage x s
+after_ended_at : (x : Task) (reply : Reply) (s : State) → task_of x.no s.tasks ≡ Some x →
+    after s (replied (event.Ended x.no) reply) ≡ ended_at x.stage x s
 unfolding after
 after_ended_at x reply s e = ap (λ f. after_ended f s) e
 
-after_medium : (x : Task) (puts : ℕ) (reply : Reply) (s : State) → task_of x.no s.tasks ≡ Some x → after s (replied (event.Cut x.no puts Medium false) reply) ≡ cut_from Medium x.stage x s
+after_medium : (x : Task) (puts : ℕ) (reply : Reply) (s : State) → task_of x.no s.tasks ≡ Some x →
+    after s (replied (event.Cut x.no puts Medium false) reply) ≡ cut_from Medium x.stage x s
 unfolding after
 after_medium x puts reply s e = ap (λ f. after_cut Medium f s) e
 
@@ -97,7 +103,9 @@ over_so : (o : Opening) (s : State) (journal : List Logged) (x : Task) (done : �
     IsAt x.stage done got → has (is_entry x.no) journal ≡ true → Inv NoneDue o (over_alone s x) journal →
     Inv NoneDue o (ended_at x.stage x s) journal × Inv NoneDue o (cut_from Medium x.stage x s) journal
 over_so o s journal x done got (inl e) over h =
-    let left = answers NoneDue o (record s { tasks = without_task x.no s.tasks }) journal kind.Reply x.no refl (leaves_so NoneDue o s journal x s.functions s.control s.blocks over h) in (
+    let left =
+    answers NoneDue o (record s { tasks = without_task x.no s.tasks }) journal kind.Reply x.no refl
+    (leaves_so NoneDue o s journal x s.functions s.control s.blocks over h) in (
       subst (λ st. Inv NoneDue o (ended_at st x s) journal) (sym e) left,
       subst (λ st. Inv NoneDue o (cut_from Medium st x s) journal) (sym e) left,
     )
@@ -108,23 +116,28 @@ over_so o s journal x done got (inr e) over h =
     )
 
 -- what is left moves blocks
-worked_over : (o : Opening) (s : State) (x : Task) (done : ℕ) (got : List ℕ) → IsAt x.stage done got → Has s.tasks x → Worked o.blocks s.tasks →
+worked_over : (o : Opening) (s : State) (x : Task) (done : ℕ) (got : List ℕ) → IsAt x.stage done got → Has s.tasks x →
+    Worked o.blocks s.tasks →
     Worked o.blocks (ended_at x.stage x s).tasks × Worked o.blocks (cut_from Medium x.stage x s).tasks
 worked_over o s x done got (inl e) hx h =
     let left : Worked o.blocks (answered kind.Reply x.no (record s { tasks = without_task x.no s.tasks })).tasks =
-    worked_answered o.blocks kind.Reply x.no (record s { tasks = without_task x.no s.tasks }) (worked_without o.blocks x.no s.tasks h) in (
+    worked_answered o.blocks kind.Reply x.no (record s { tasks = without_task x.no s.tasks })
+    (worked_without o.blocks x.no s.tasks h) in (
       subst (λ st. Worked o.blocks (ended_at st x s).tasks) (sym e) left,
       subst (λ st. Worked o.blocks (cut_from Medium st x s).tasks) (sym e) left,
     )
 worked_over o s x done got (inr e) hx h =
-    let there : Worked o.blocks (with_task (at_stage Over x) s.tasks) = worked_with o.blocks s.tasks (at_stage Over x) h (h x hx (ap is_waiting e)).0 (omega arith) in (
+    let there : Worked o.blocks (with_task (at_stage Over x) s.tasks) =
+    worked_with o.blocks s.tasks (at_stage Over x) h (h x hx (ap is_waiting e)).0 (omega arith) in (
       subst (λ st. Worked o.blocks (ended_at st x s).tasks) (sym e) there,
       subst (λ st. Worked o.blocks (cut_from Medium st x s).tasks) (sym e) there,
     )
 
 -- a command of the task set ends
-ends_with : (laws : Laws) (o : Opening) (s : State) (journal : List Logged) (x : Task) (done : ℕ) (got : List ℕ) (reply : Reply) →
-    Scheduled o s journal → Rules o.blocks (serial_disk o journal) s.control s.tasks → IsCommandOf journal x.no x.command → Has s.tasks x → IsAt x.stage done got →
+ends_with : (laws : Laws) (o : Opening) (s : State) (journal : List Logged) (x : Task) (done : ℕ) (got : List ℕ)
+    (reply : Reply) →
+    Scheduled o s journal → Rules o.blocks (serial_disk o journal) s.control s.tasks →
+    IsCommandOf journal x.no x.command → Has s.tasks x → IsAt x.stage done got →
     Inv NoneDue o (over_alone s x) (journal ++ replied (event.Ended x.no) reply ∷ []) →
     After NoneDue o journal (replies (event.Ended x.no) reply s)
 ends_with laws o s journal x done got reply h rules known hx stage inv =
@@ -149,7 +162,8 @@ record Stood (s : State) (x : Task) (done : ℕ) (got : List ℕ) (t : State) : 
   control : t.control ≡ s.control
   size : length t.blocks ≡ length s.blocks
 
-after_moving : (x : Task) (count : ℕ) (done : ℕ) (got : List ℕ) (s : State) → task_of x.no s.tasks ≡ Some x → IsAt x.stage done got → after s (told (event.Moved x.no count)) ≡ moved_from x count done got s
+after_moving : (x : Task) (count : ℕ) (done : ℕ) (got : List ℕ) (s : State) → task_of x.no s.tasks ≡ Some x →
+    IsAt x.stage done got → after s (told (event.Moved x.no count)) ≡ moved_from x count done got s
 unfolding after
 after_moving x count done got s e (inl k) = ap (λ f. after_moved f count s) e ∙ ap (λ st. moved_at st x count s) k
 after_moving x count done got s e (inr k) = ap (λ f. after_moved f count s) e ∙ ap (λ st. moved_at st x count s) k
@@ -163,9 +177,12 @@ after_some o s journal x k done got made h hx at e =
     ∙ ap (λ m. moved_from x m done got s) (sym e) ∙ moved_is x k done got s
 
 -- as far as it comes, it makes no more operations than it has
-worked_moved : (o : Opening) (s : State) (x : Task) (k done : ℕ) (got : List ℕ) → length s.blocks ≡ o.blocks → IsAt x.stage done got → Has s.tasks x → Worked o.blocks s.tasks → Worked o.blocks (moved_state s x (comes_to s x k done got)).tasks
+worked_moved : (o : Opening) (s : State) (x : Task) (k done : ℕ) (got : List ℕ) → length s.blocks ≡ o.blocks →
+    IsAt x.stage done got → Has s.tasks x → Worked o.blocks s.tasks →
+    Worked o.blocks (moved_state s x (comes_to s x k done got)).tasks
 worked_moved o s x k done got size at hx h =
-    worked_with o.blocks s.tasks (at_stage stage x) h was.0 (omega (arith, is, made, taken, dropped, before, within, plans))
+    worked_with o.blocks s.tasks (at_stage stage x) h was.0
+    (omega (arith, is, made, taken, dropped, before, within, plans))
   where
     p : Progress
     p = comes_to s x k done got
@@ -174,7 +191,8 @@ worked_moved o s x k done got size at hx h =
     stage = further x.stage p.made p.cells.got
 
     was : (has_operations (plan_in o.blocks x.command) ≡ true) × (done_at x.stage ≤ length (plan_in o.blocks x.command))
-    was = h x hx (⊎_elim (λ (e : x.stage ≡ Here done got). ap is_waiting e) (λ (e : x.stage ≡ There done got). ap is_waiting e) at)
+    was = h x hx (⊎_elim (λ (e : x.stage ≡ Here done got). ap is_waiting e)
+        (λ (e : x.stage ≡ There done got). ap is_waiting e) at)
 
     plan : List BlockOp
     plan = plan_in (length s.blocks) x.command
@@ -201,7 +219,8 @@ worked_moved o s x k done got size at hx h =
     within = was.1
 
 -- the event of so many operations, if there were some, none of which found a difference
-record Moved_on (o : Opening) (s : State) (journal : List Logged) (x : Task) (done : ℕ) (got : List ℕ) (t : Turn) : Type 0 where
+record Moved_on (o : Opening) (s : State) (journal : List Logged) (x : Task) (done : ℕ) (got : List ℕ)
+    (t : Turn) : Type 0 where
   now : After NoneDue o journal t
   stood : Stood s x done got t.state
 
@@ -299,9 +318,11 @@ differs_so laws o s journal x k done got offset h hx at differs = go q.made refl
         let state : after s l ≡ now = after_some o s journal x k done got (suc made) h.inv hx at e in
         let others = (moves_so NoneDue o s journal x k done got h.inv hx at).others in
         let rules : Rules o.blocks (serial_disk o j) now.control now.tasks =
-        subst (λ m. Rules o.blocks (serial_disk o (journal ++ told (event.Moved x.no m) ∷ [])) now.control now.tasks) e others.rules in
+        subst (λ m. Rules o.blocks
+        (serial_disk o (journal ++ told (event.Moved x.no m) ∷ [])) now.control now.tasks) e others.rules in
         let schedule : Scheduled o now j =
-        goes_on o s now journal l h.schedule state (worked_moved o s x k done got h.inv.frame.size at hx h.schedule.worked) (untimed o journal l refl) in
+        goes_on o s now journal l h.schedule state
+        (worked_moved o s x k done got h.inv.frame.size at hx h.schedule.worked) (untimed o journal l refl) in
         let known : IsCommandOf j x.no x.command =
         ap (numbered x.no) (works_in-none journal l refl) ∙ known_in NoneDue o s journal x h.inv.frame hx in
         let inv : Inv NoneDue o (over_alone now w) (j ++ replied (event.Ended x.no) reply ∷ []) =
@@ -348,28 +369,41 @@ moved_to_so laws o s t journal x done got operations fault ended h size st whole
         (subst (λ d. d ≤ length (plan_in o.blocks w.command)) (at_done w.stage done got st.stage)
         (h.schedule.worked w st.has (moving_begun w.stage done got st.stage)).1))
 
-    cut : (op : BlockOp) → slice_get plan done ≡ Some op → After NoneDue o journal (replies (event.Cut w.no (puts_among (take done plan)) Medium false) (reply_failed t.control op) t)
+    cut : (op : BlockOp) → slice_get plan done ≡ Some op →
+        After NoneDue o journal (replies (event.Cut w.no (puts_among (take done plan)) Medium false)
+        (reply_failed t.control op) t)
     cut op e =
         let l : Logged = replied (event.Cut w.no (puts_at o.blocks w) Medium false) (reply_failed t.control op) in
-        let inv = medium_so NoneDue o t journal w done got op h.inv st.has st.stage (subst (λ k. slice_get k done ≡ Some op) same_plan e) in
-        let puts : puts_at o.blocks w ≡ puts_among (take done plan) = ap (λ d. puts_among (take d (plan_in o.blocks w.command))) (at_done w.stage done got st.stage) ∙ ap (λ k. puts_among (take done k)) (sym same_plan) in
-        subst (λ m. After NoneDue o journal (replies (event.Cut w.no m Medium false) (reply_failed t.control op) t)) puts
+        let inv =
+        medium_so NoneDue o t journal w done got op h.inv st.has st.stage
+        (subst (λ k. slice_get k done ≡ Some op) same_plan e) in
+        let puts : puts_at o.blocks w ≡ puts_among (take done plan) =
+        ap (λ d. puts_among (take d (plan_in o.blocks w.command))) (at_done w.stage done got st.stage) ∙ ap
+        (λ k. puts_among (take done k)) (sym same_plan) in
+        subst (λ m. After NoneDue o journal
+        (replies (event.Cut w.no m Medium false) (reply_failed t.control op) t)) puts
         (wrote NoneDue o t (cut_from Medium w.stage w t) journal l h.schedule
         (after_medium w (puts_at o.blocks w) (reply_failed t.control op) t found)
-        (over_so o t (journal ++ l ∷ []) w done got st.stage (has_now (is_entry w.no) journal l (eq-eqb w.no w.no refl)) inv).1
+        (over_so o t (journal ++ l ∷ []) w done got st.stage
+        (has_now (is_entry w.no) journal l (eq-eqb w.no w.no refl)) inv).1
         (worked_over o t w done got st.stage st.has h.schedule.worked).1
         (untimed_medium o journal l w.no (puts_at o.blocks w) false refl))
 
-    fails : (found : Option BlockOp) → ((op : BlockOp) → found ≡ Some op → slice_get plan done ≡ Some op) → After NoneDue o journal (failing x plan done found t)
+    fails : (found : Option BlockOp) → ((op : BlockOp) → found ≡ Some op → slice_get plan done ≡ Some op) →
+        After NoneDue o journal (failing x plan done found t)
     fails None f = stays_so NoneDue o t journal h
-    fails (Some op) f = subst (λ m. After NoneDue o journal (replies (event.Cut m (puts_among (take done plan)) Medium false) (reply_failed t.control op) t)) st.no (cut op (f op refl))
+    fails (Some op) f = subst
+        (λ m. After NoneDue o journal
+        (replies (event.Cut m (puts_among (take done plan)) Medium false) (reply_failed t.control op) t)) st.no
+        (cut op (f op refl))
 
     fails_if : (fl : Option ℕ) → fault ≡ fl → After NoneDue o journal (failing_if x plan done operations fl t)
     fails_if None e = stays_so NoneDue o t journal h
     fails_if (Some f) e = fails (slice_get operations f) (λ op k. failed f op e k)
 
     go : (b : Bool) → ended ≡ b → After NoneDue o journal (moved_to None b x plan done got operations fault t)
-    go true e = subst (λ m. After NoneDue o journal (replies (event.Ended m) (reply_moved t.control None got) t)) st.no (over e)
+    go true e =
+        subst (λ m. After NoneDue o journal (replies (event.Ended m) (reply_moved t.control None got) t)) st.no (over e)
     go false e = fails_if fault refl
 
 pub moving_so : (laws : Laws) (o : Opening) (s : State) (journal : List Logged) (x : Task) (count : ℕ)
@@ -433,37 +467,51 @@ moving_so laws o s journal x count fault done got h hx at = go progress.differen
         subst (EndsBy offset) (sym front.1) (differs_so laws o s journal x front.0 done got offset h hx at) differs
 
 -- the operations don't depend on where the command stands
-failing_alike : (x : Task) (stage : Stage) (plan : List BlockOp) (done : ℕ) (found : Option BlockOp) (s : State) → failing (at_stage stage x) plan done found s ≡ failing x plan done found s
+failing_alike : (x : Task) (stage : Stage) (plan : List BlockOp) (done : ℕ) (found : Option BlockOp) (s : State) →
+    failing (at_stage stage x) plan done found s ≡ failing x plan done found s
 failing_alike x stage plan done None s = refl
 failing_alike x stage plan done (Some op) s = refl
 
-moved_alike : (x : Task) (stage : Stage) (plan : List BlockOp) (difference : Option ℕ) (ended : Bool) (done : ℕ) (got : List ℕ) (operations : List BlockOp) (fault : Option ℕ) (s : State) →
-    moved_to difference ended (at_stage stage x) plan done got operations fault s ≡ moved_to difference ended x plan done got operations fault s
+moved_alike : (x : Task) (stage : Stage) (plan : List BlockOp) (difference : Option ℕ) (ended : Bool) (done : ℕ)
+    (got : List ℕ) (operations : List BlockOp) (fault : Option ℕ) (s : State) →
+    moved_to difference ended (at_stage stage x) plan done got operations fault s
+    ≡ moved_to difference ended x plan done got operations fault s
 moved_alike x stage plan (Some offset) ended done got operations fault s = refl
 moved_alike x stage plan None true done got operations fault s = refl
 moved_alike x stage plan None false done got operations None s = refl
-moved_alike x stage plan None false done got operations (Some f) s = failing_alike x stage plan done (slice_get operations f) s
+moved_alike x stage plan None false done got operations (Some f) s =
+    failing_alike x stage plan done (slice_get operations f) s
 
-moving_alike : (x : Task) (stage : Stage) (count : ℕ) (fault : Option ℕ) (done : ℕ) (got : List ℕ) (s : State) → moving_from (at_stage stage x) count fault done got s ≡ moving_from x count fault done got s
+moving_alike : (x : Task) (stage : Stage) (count : ℕ) (fault : Option ℕ) (done : ℕ) (got : List ℕ) (s : State) →
+    moving_from (at_stage stage x) count fault done got s ≡ moving_from x count fault done got s
 moving_alike x stage count fault done got s =
     let plan = plan_in (length s.blocks) x.command in
     let operations = take count (drop done plan) in
     let progress = performed x.command.out (tried operations fault) (record { blocks = s.blocks; got = got }) in
     let first = moving_on x.no progress.made s in
-    ap (λ (t : Turn). followed first (λ z. t)) (moved_alike x stage plan progress.difference (nat_le (length plan) (done + progress.made)) (done + progress.made) progress.cells.got operations fault first.state)
+    ap (λ (t : Turn). followed first (λ z. t))
+    (moved_alike x stage plan progress.difference (nat_le (length plan) (done + progress.made))
+    (done + progress.made) progress.cells.got operations fault first.state)
 
 -- Begins
 
-after_first : (x : Task) (s : State) → task_of x.no s.tasks ≡ Some x → after s (told (event.Begun x.no)) ≡ record s { tasks = with_task (at_stage (Here 0 []) x) s.tasks }
+after_first : (x : Task) (s : State) → task_of x.no s.tasks ≡ Some x →
+    after s (told (event.Begun x.no)) ≡ record s { tasks = with_task (at_stage (Here 0 []) x) s.tasks }
 unfolding after
 after_first x s e = ap (λ f. staged (Here 0 []) f s) e
 
-after_granting : (x : Task) (s : State) → task_of x.no s.tasks ≡ Some x → after s (told (event.Granted x.no)) ≡ record s { tasks = with_task (at_stage Granted x) s.tasks; to_b = s.to_b ++ message kind.Grant x.no ∷ [] }
+after_granting : (x : Task) (s : State) → task_of x.no s.tasks ≡ Some x →
+    after s (told (event.Granted x.no))
+    ≡ record s { tasks = with_task (at_stage Granted x) s.tasks; to_b = s.to_b ++ message kind.Grant x.no ∷ [] }
 unfolding after
-after_granting x s e = ap (λ f. record (staged Granted f s) { to_b = (staged Granted f s).to_b ++ message kind.Grant x.no ∷ [] }) e
+after_granting x s e =
+    ap (λ f. record (staged Granted f s) { to_b = (staged Granted f s).to_b ++ message kind.Grant x.no ∷ [] }) e
 
 -- a command that is refused or makes no operation ends, and what it clears is cut
-once_so : (laws : Laws) (o : Opening) (s : State) (journal : List Logged) (x : Task) → Now NoneDue o s journal → ((n : ℕ) → in_tasks n s.tasks ≤ 1) → Has s.tasks x → x.stage ≡ Waiting → s.functions ≡ [] → IsReady o.blocks (is_unrestricted s.control) x s.tasks → IsOnce (refusal_of s.control o.blocks x.command) (plan_in o.blocks x.command) →
+once_so : (laws : Laws) (o : Opening) (s : State) (journal : List Logged) (x : Task) → Now NoneDue o s journal →
+    ((n : ℕ) → in_tasks n s.tasks ≤ 1) → Has s.tasks x → x.stage ≡ Waiting → s.functions ≡ [] →
+    IsReady o.blocks (is_unrestricted s.control) x s.tasks →
+    IsOnce (refusal_of s.control o.blocks x.command) (plan_in o.blocks x.command) →
     After NoneDue o journal (ending_at_once x s)
 once_so laws o s journal x h distinct hx st closed ready is_once =
     then_so NoneDue o journal (writes l s) (λ ended. clearing_all x.no a.cleared (numbers_of ended.tasks) ended)
@@ -511,7 +559,8 @@ once_so laws o s journal x h distinct hx st closed ready is_once =
 
     inv : Inv NoneDue o left j
     inv = answers NoneDue o gone j kind.Reply x.no refl
-        (leaves_so NoneDue o s j x s.functions a.disk.control a.disk.blocks (has_now (is_entry x.no) journal l (eq-eqb x.no x.no refl))
+        (leaves_so NoneDue o s j x s.functions a.disk.control a.disk.blocks
+        (has_now (is_entry x.no) journal l (eq-eqb x.no x.no refl))
         (once_ends NoneDue laws o s journal x h.inv hx st ready is_once))
 
     -- a command that is left is another, which waits where it is cleared
@@ -527,8 +576,10 @@ once_so laws o s journal x h distinct hx st closed ready is_once =
         go : (t : Bool) → is_waiting y.stage ≡ t → is_waiting y.stage ≡ true
         go true e = e
         go false e = absurd (both_ways (contains a.cleared y.command.nexus)
-            (laws.unclearing (is_unrestricted s.control) o.blocks y.command x.command (has_begun y.stage) (has_begun x.stage) (disk_of s) y.command.nexus
-            (ready_begun laws o.blocks (is_unrestricted s.control) s.tasks x y h.inv.rules.single ready other.0 other.1 (ap not e))
+            (laws.unclearing (is_unrestricted s.control) o.blocks y.command x.command (has_begun y.stage)
+            (has_begun x.stage) (disk_of s) y.command.nexus
+            (ready_begun laws o.blocks (is_unrestricted s.control) s.tasks x y h.inv.rules.single ready other.0 other.1
+            (ap not e))
             (h.schedule.worked y other.0 e).0) cleared)
 
     due : due_of (standings_of o) o j ≡ due_from x.no told_so a.cleared now.tasks
@@ -544,11 +595,13 @@ once_so laws o s journal x h distinct hx st closed ready is_once =
       inv = stops_so o left j x.no (tells_aborts s.control) a.cleared still.0 inv;
       at = sym state ∙ replayed o s journal l h.schedule.at;
       timely = each_more (TimelyAt o) [] journal l h.schedule.timely
-          (subst (λ ns. IsTimelyAt journal (due_of (standings_of o) o journal) ns l.event) (sym h.schedule.due) (λ c. c));
+          (subst (λ ns. IsTimelyAt journal (due_of (standings_of o) o journal) ns l.event) (sym h.schedule.due)
+          (λ c. c));
       due = due;
       worked = subst (λ q. Worked o.blocks q) (sym tasks) (worked_without o.blocks x.no s.tasks h.schedule.worked);
       stands = stands_whole left.tasks (distinct_in left.tasks
-          (λ n. subst (λ q. in_tasks n q ≤ 1) (sym tasks) (let k = distinct n in let w = in_without n x.no s.tasks in omega (arith, k, w))));
+          (λ n. subst (λ q. in_tasks n q ≤ 1) (sym tasks)
+          (let k = distinct n in let w = in_without n x.no s.tasks in omega (arith, k, w))));
       closed = still.0;
       tells = λ y hy cleared.
           ap tells_aborts still.1 ∙ laws.clears_told (disk_of s) x.command y.command.nexus cleared
@@ -559,28 +612,48 @@ once_so laws o s journal x h distinct hx st closed ready is_once =
       gone = λ y hy. (stays y hy).1;
     }
 
-begin_so : (laws : Laws) (o : Opening) (s : State) (journal : List Logged) (x : Task) (count : ℕ) (fault : Option ℕ) → Now NoneDue o s journal → ((n : ℕ) → in_tasks n s.tasks ≤ 1) → Has s.tasks x → x.stage ≡ Waiting → s.functions ≡ [] → IsReady o.blocks (is_unrestricted s.control) x s.tasks →
-    After NoneDue o journal (beginning (refusal_of s.control (length s.blocks) x.command) (plan_in (length s.blocks) x.command) x count fault s)
-begin_so laws o s journal x count fault h distinct hx st none ready = go (refusal_of s.control (length s.blocks) x.command) (plan_in (length s.blocks) x.command) refl refl
+begin_so : (laws : Laws) (o : Opening) (s : State) (journal : List Logged) (x : Task) (count : ℕ) (fault : Option ℕ) →
+    Now NoneDue o s journal → ((n : ℕ) → in_tasks n s.tasks ≤ 1) → Has s.tasks x → x.stage ≡ Waiting →
+    s.functions ≡ [] → IsReady o.blocks (is_unrestricted s.control) x s.tasks →
+    After NoneDue o journal (beginning (refusal_of s.control (length s.blocks) x.command)
+    (plan_in (length s.blocks) x.command) x count fault s)
+begin_so laws o s journal x count fault h distinct hx st none ready =
+    go (refusal_of s.control (length s.blocks) x.command) (plan_in (length s.blocks) x.command) refl refl
   where
     size : length s.blocks ≡ o.blocks
     size = h.inv.frame.size
 
-    once : IsOnce (refusal_of s.control (length s.blocks) x.command) (plan_in (length s.blocks) x.command) → After NoneDue o journal (ending_at_once x s)
-    once k = once_so laws o s journal x h distinct hx st none ready (subst (λ n. IsOnce (refusal_of s.control n x.command) (plan_in n x.command)) size k)
+    once : IsOnce (refusal_of s.control (length s.blocks) x.command) (plan_in (length s.blocks) x.command) →
+        After NoneDue o journal (ending_at_once x s)
+    once k =
+        once_so laws o s journal x h distinct hx st none ready
+        (subst (λ n. IsOnce (refusal_of s.control n x.command) (plan_in n x.command)) size k)
 
-    begins : (t : Bool) → refusal_of s.control (length s.blocks) x.command ≡ None → has_operations (plan_in (length s.blocks) x.command) ≡ true → Inv NoneDue o (record s { tasks = with_task (at_stage (first_stage t) x) s.tasks }) (journal ++ told (first_event t x.no) ∷ [])
-    begins t refused moves = begun_so NoneDue laws o s journal x t (λ f n k. k) h.inv hx st ready none (ap (λ n. refusal_of s.control n x.command) (sym size) ∙ refused) (ap (λ n. has_operations (plan_in n x.command)) (sym size) ∙ moves)
+    begins : (t : Bool) → refusal_of s.control (length s.blocks) x.command ≡ None →
+        has_operations (plan_in (length s.blocks) x.command) ≡ true →
+        Inv NoneDue o (record s { tasks = with_task (at_stage (first_stage t) x) s.tasks })
+        (journal ++ told (first_event t x.no) ∷ [])
+    begins t refused moves =
+        begun_so NoneDue laws o s journal x t (λ f n k. k) h.inv hx st ready none
+        (ap (λ n. refusal_of s.control n x.command) (sym size) ∙ refused)
+        (ap (λ n. has_operations (plan_in n x.command)) (sym size) ∙ moves)
 
     found : task_of x.no s.tasks ≡ Some x
     found = found_of s.tasks x h.inv.rules.single hx
 
-    works : (stage : Stage) → has_operations (plan_in (length s.blocks) x.command) ≡ true → done_at stage ≡ 0 → Worked o.blocks (with_task (at_stage stage x) s.tasks)
-    works stage moves none = worked_with o.blocks s.tasks (at_stage stage x) h.schedule.worked (ap (λ n. has_operations (plan_in n x.command)) (sym size) ∙ moves) (omega (arith, none))
+    works : (stage : Stage) → has_operations (plan_in (length s.blocks) x.command) ≡ true → done_at stage ≡ 0 →
+        Worked o.blocks (with_task (at_stage stage x) s.tasks)
+    works stage moves none =
+        worked_with o.blocks s.tasks (at_stage stage x) h.schedule.worked
+        (ap (λ n. has_operations (plan_in n x.command)) (sym size) ∙ moves) (omega (arith, none))
 
-    first : (t : Bool) → refusal_of s.control (length s.blocks) x.command ≡ None → has_operations (plan_in (length s.blocks) x.command) ≡ true → After NoneDue o journal (beginning_at t x count fault s)
-    first true refused moves = wrote NoneDue o s _ journal (told (event.Granted x.no)) h.schedule (after_granting x s found)
-        (tells_b NoneDue o (record s { tasks = with_task (at_stage Granted x) s.tasks }) (journal ++ told (event.Granted x.no) ∷ []) (message kind.Grant x.no) refl (begins true refused moves))
+    first : (t : Bool) → refusal_of s.control (length s.blocks) x.command ≡ None →
+        has_operations (plan_in (length s.blocks) x.command) ≡ true →
+        After NoneDue o journal (beginning_at t x count fault s)
+    first true refused moves =
+        wrote NoneDue o s _ journal (told (event.Granted x.no)) h.schedule (after_granting x s found)
+        (tells_b NoneDue o (record s { tasks = with_task (at_stage Granted x) s.tasks })
+        (journal ++ told (event.Granted x.no) ∷ []) (message kind.Grant x.no) refl (begins true refused moves))
         (works Granted moves refl) (untimed o journal (told (event.Granted x.no)) refl)
     first false refused moves =
         let l : Logged = told (event.Begun x.no) in
@@ -589,39 +662,54 @@ begin_so laws o s journal x count fault h distinct hx st none ready = go (refusa
         let begun : Now NoneDue o (after s l) (journal ++ l ∷ []) =
         wrote NoneDue o s now journal l h.schedule (after_first x s found) (begins false refused moves)
         (works (Here 0 []) moves refl) (untimed o journal l refl) in
-        let has_here : Has (after s l).tasks here = subst (λ (t : State). Has t.tasks here) (sym (after_first x s found)) (with_itself here s.tasks x hx refl) in
+        let has_here : Has (after s l).tasks here =
+        subst (λ (t : State). Has t.tasks here) (sym (after_first x s found)) (with_itself here s.tasks x hx refl) in
         then_so NoneDue o journal (writes l s) (moving_from x count fault 0 [])
-        (subst (λ (t : Turn). After NoneDue o (journal ++ l ∷ []) t) (moving_alike x (Here 0 []) count fault 0 [] (after s l)) (moving_so laws o (after s l) (journal ++ l ∷ []) here count fault 0 [] begun has_here (inl refl)))
+        (subst (λ (t : Turn). After NoneDue o (journal ++ l ∷ []) t)
+        (moving_alike x (Here 0 []) count fault 0 [] (after s l))
+        (moving_so laws o (after s l) (journal ++ l ∷ []) here count fault 0 [] begun has_here (inl refl)))
 
-    go : (refused : Option Reply) (plan : List BlockOp) → refusal_of s.control (length s.blocks) x.command ≡ refused → plan_in (length s.blocks) x.command ≡ plan → After NoneDue o journal (beginning refused plan x count fault s)
+    go : (refused : Option Reply) (plan : List BlockOp) → refusal_of s.control (length s.blocks) x.command ≡ refused →
+        plan_in (length s.blocks) x.command ≡ plan → After NoneDue o journal (beginning refused plan x count fault s)
     go (Some r) plan er ep = once (subst (λ q. IsOnce q (plan_in (length s.blocks) x.command)) (sym er) tt)
     go None [] er ep = once (subst (λ q. IsOnce q (plan_in (length s.blocks) x.command)) (sym er) ep)
     go None (op ∷ ops) er ep = first (is_granted s.ha x.node) er (ap has_operations ep)
 
 -- Steps
 
-pub step_so : (laws : Laws) (o : Opening) (s : State) (journal : List Logged) (number count : ℕ) (fault : Option ℕ) → Now NoneDue o s journal → ((n : ℕ) → in_tasks n s.tasks ≤ 1) → After NoneDue o journal (stepping (task_of number s.tasks) number count fault s).turn
+pub step_so : (laws : Laws) (o : Opening) (s : State) (journal : List Logged) (number count : ℕ) (fault : Option ℕ) →
+    Now NoneDue o s journal → ((n : ℕ) → in_tasks n s.tasks ≤ 1) →
+    After NoneDue o journal (stepping (task_of number s.tasks) number count fault s).turn
 step_so laws o s journal number count fault h distinct = go (task_of number s.tasks) refl
   where
-    away : (t : Bool) → After NoneDue o journal (cond {A = Done} t (record { turn = nothing s; answer = answer.Away number }) (record { turn = nothing s; answer = answer.Gone })).turn
+    away : (t : Bool) → After NoneDue o journal
+        (cond {A = Done} t (record { turn = nothing s; answer = answer.Away number })
+        (record { turn = nothing s; answer = answer.Gone })).turn
     away true = stays_so NoneDue o s journal h
     away false = stays_so NoneDue o s journal h
 
-    ready : (x : Task) → Has s.tasks x → x.stage ≡ Waiting → (blocked : Option ℕ) → blocked_by s.functions s x ≡ blocked → After NoneDue o journal (beginning_unless blocked x count fault s).turn
+    ready : (x : Task) → Has s.tasks x → x.stage ≡ Waiting → (blocked : Option ℕ) →
+        blocked_by s.functions s x ≡ blocked → After NoneDue o journal (beginning_unless blocked x count fault s).turn
     ready x hx st (Some by) e = stays_so NoneDue o s journal h
     ready x hx st None e = free s.functions refl e
       where
-        free : (fs : List Open) → s.functions ≡ fs → blocked_by fs s x ≡ None → After NoneDue o journal (beginning (refusal_of s.control (length s.blocks) x.command) (plan_in (length s.blocks) x.command) x count fault s)
-        free [] none e = begin_so laws o s journal x count fault h distinct hx st none (subst (λ n. IsReady n (is_unrestricted s.control) x s.tasks) h.inv.frame.size (ready_in s x e))
+        free : (fs : List Open) → s.functions ≡ fs → blocked_by fs s x ≡ None →
+            After NoneDue o journal (beginning (refusal_of s.control (length s.blocks) x.command)
+            (plan_in (length s.blocks) x.command) x count fault s)
+        free [] none e =
+            begin_so laws o s journal x count fault h distinct hx st none
+            (subst (λ n. IsReady n (is_unrestricted s.control) x s.tasks) h.inv.frame.size (ready_in s x e))
         free (f ∷ fs) none e = absurd (cc)
 
-    at : (x : Task) → Has s.tasks x → (stage : Stage) → x.stage ≡ stage → After NoneDue o journal (stepping_at stage x count fault s).turn
+    at : (x : Task) → Has s.tasks x → (stage : Stage) → x.stage ≡ stage →
+        After NoneDue o journal (stepping_at stage x count fault s).turn
     at x hx Waiting st = ready x hx st (blocked_by s.functions s x) refl
     at x hx (Here done got) st = moving_so laws o s journal x count fault done got h hx (inl st)
     at x hx Granted st = stays_so NoneDue o s journal h
     at x hx (There done got) st = moving_so laws o s journal x count fault done got h hx (inr st)
     at x hx Over st = stays_so NoneDue o s journal h
 
-    go : (found : Option Task) → task_of number s.tasks ≡ found → After NoneDue o journal (stepping found number count fault s).turn
+    go : (found : Option Task) → task_of number s.tasks ≡ found →
+        After NoneDue o journal (stepping found number count fault s).turn
     go None e = away (list_any (is_sent number) s.to_a)
     go (Some x) e = at x (has_found number s.tasks x e).0 x.stage refl

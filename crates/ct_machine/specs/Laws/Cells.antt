@@ -1,5 +1,6 @@
 -- The blocks and data beside the journal: each `moved` makes its operations, in order.
-use Rattle.std.specs.Prelude.{◌≡◌, ℕ, List, [], ◌∷◌, ◌++◌, length, take, drop, Bool, true, false, ◌==◌, Option, None, Some}
+use Rattle.std.specs.Prelude.{◌≡◌, ℕ, List, [], ◌∷◌, ◌++◌, length, take, drop, Bool, true, false, ◌==◌}
+use Rattle.std.specs.Prelude.{Option, None, Some}
 use Rattle.ct_sense.specs.declared.reply.Reply.{Reply}
 use Rattle.ct_plan.specs.Cells.{Cells, Progress, performed}
 use Rattle.ct_book.specs.declared.work.Command.{Command}
@@ -17,7 +18,8 @@ use Rattle.ct_machine.specs.Laws.Journals.{Each, has, is_begin, made_by, work_in
 
 -- the blocks, and of one command the data so far and the difference that it found
 abbrev pub progress_made : Command → ℕ → ℕ → Cells → ℕ → Progress
-progress_made command made count cells blocks = performed command.out (take count (drop made (plan_in blocks command))) cells
+progress_made command made count cells blocks =
+    performed command.out (take count (drop made (plan_in blocks command))) cells
 
 pub record Beside : Type 0 where
   pub blocks : List (List ℕ)
@@ -25,12 +27,14 @@ pub record Beside : Type 0 where
   pub difference : Option ℕ
 
 abbrev pub kept_if : Bool → Progress → Beside → Beside
-kept_if true progress beside = record { blocks = progress.cells.blocks; got = progress.cells.got; difference = progress.difference }
+kept_if true progress beside =
+    record { blocks = progress.cells.blocks; got = progress.cells.got; difference = progress.difference }
 kept_if false progress beside = record beside { blocks = progress.cells.blocks }
 
 abbrev pub moved_beside : ℕ → ℕ → ℕ → ℕ → Option KeptWork → Beside → Beside
 moved_beside wanted number made count (Some (work.Cmd command)) beside =
-    kept_if (number == wanted) (progress_made command made count (record { blocks = beside.blocks; got = beside.got }) (length beside.blocks)) beside
+    let cells : Cells = record { blocks = beside.blocks; got = beside.got } in
+    kept_if (number == wanted) (progress_made command made count cells (length beside.blocks)) beside
 moved_beside wanted number made count _ beside = beside
 
 abbrev pub beside_after : ℕ → List Logged → Event → Beside → Beside
@@ -55,7 +59,8 @@ beside_behind wanted before beside (logged ∷ journal) =
 -- each `moved` makes its operations on the cells, in order; what the command with a number got and found meanwhile
 unfoldable pub beside : Opening → ℕ → List Logged → Beside
 beside o wanted journal =
-    beside_behind wanted [] (record { blocks = (opening_disk o.lun o.blocks).blocks; got = []; difference = None }) journal
+    let opened : Beside = record { blocks = (opening_disk o.lun o.blocks).blocks; got = []; difference = None } in
+    beside_behind wanted [] opened journal
 
 -- the reply of a command that moved has the data that it got from the cells, or the first difference that it found
 abbrev pub RepliesByCells : Opening → List Logged → Option Reply → ℕ → Type 0
@@ -64,8 +69,8 @@ RepliesByCells o before replied number =
     let found = beside o number before in
     replied ≡ Some (reply_moved (serial_disk o before).control found.difference found.got)
 
--- a command that found a difference isn't moved on, nor cut; one that ends behind its begin without a difference made its
--- whole plan
+-- a command that found a difference isn't moved on, nor cut; one that ends behind its begin without a difference made
+-- its whole plan
 abbrev pub MakesPlanAt : Opening → List Logged → Event → Type 0
 MakesPlanAt o before (event.Moved number count) = (beside o number before).difference ≡ None
 MakesPlanAt o before (event.Cut number puts why told) = (beside o number before).difference ≡ None

@@ -62,7 +62,8 @@ IsOutcomeOf standing true ask outcome =
 abbrev pub IsAnsweredAt : Standings → List Logged → Event → Type 0
 IsAnsweredAt standings before (event.Asked number) = (standings before).functions < MOST_FUNCTIONS
 IsAnsweredAt standings before (event.Closed number outcome) =
-    (ask : Ask) → IsFunctionOf before number ask → IsOutcomeOf (standings before) (has (is_asked number) before) ask outcome
+    (ask : Ask) → IsFunctionOf before number ask →
+    IsOutcomeOf (standings before) (has (is_asked number) before) ask outcome
 IsAnsweredAt standings before (event.Came number node line) = Unit {0}
 IsAnsweredAt standings before (event.Enter number) = Unit {0}
 IsAnsweredAt standings before (event.Turned number) = Unit {0}

@@ -25,7 +25,8 @@ abbrev pub IsBehindAll : Opening → List Logged → ℕ → Type 0
 IsBehindAll o before b =
     (a : ℕ) (command_a command_b : Command) → a ≢ b → IsCommandOf before a command_a → IsCommandOf before b command_b →
     has (is_enter a) before ≡ true →
-    goes_first o.blocks (is_unrestricted (serial_disk o before).control) (comes_first (is_enter a) (is_enter b) before) (has (is_begin a) before) command_a command_b ≡ true →
+    goes_first o.blocks (is_unrestricted (serial_disk o before).control) (comes_first (is_enter a) (is_enter b) before)
+    (has (is_begin a) before) command_a command_b ≡ true →
     has (is_entry a) before ≡ true
 
 -- a command starts behind all that must go first
