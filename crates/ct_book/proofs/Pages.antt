@@ -1,5 +1,7 @@
 -- The journal of a book as its works, replies and events change.
-use Rattle.std.proofs.Common.{◌≡◌, inl, inr, ℕ, zero, suc, ◌+◌, ◌-◌, ◌<◌, ◌≤◌, Bool, true, false, List, [], ◌∷◌, ◌++◌, length, map, slice_get, slice_set, Option, Some, None, is_some, IsSome, IfSome, refl, sym, ◌∙◌, ap, subst, arith, sub-one}
+use Rattle.std.proofs.Common.{◌≡◌, inl, inr, ℕ, zero, suc, ◌+◌, ◌-◌, ◌<◌, ◌≤◌, Bool, true, false, List, [], ◌∷◌, ◌++◌}
+use Rattle.std.proofs.Common.{length, map, slice_get, slice_set, Option, Some, None, is_some, IsSome, IfSome, refl, sym}
+use Rattle.std.proofs.Common.{◌∙◌, ap, subst, arith, sub-one}
 use Rattle.std.specs.Prelude.{option_and_then, option_map, IsSomeAnd, if◌then◌else◌}
 use Rattle.std.specs.List.{cons_option}
 use Rattle.std.proofs.lemmas.Option.{same_Some, none-some, slice_get_within, slice_get_cases, slice_get-map}
@@ -11,12 +13,14 @@ use Rattle.ct_sense.specs.declared.reply.Reply.{Reply}
 use Rattle.ct_word.specs.declared.names.Node.{Node}
 use Rattle.ct_book.specs.declared.work.Work.TheVariants as work
 use Rattle.ct_book.specs.declared.event.Event.{Event}
-use Rattle.ct_book.specs.declared.event.Event.TheVariants.{Came, Enter, Turned, Begun, Granted, Moved, Ended, Cut, Asked, Closed, Deliver}
-use Rattle.ct_book.specs.declared.event.Why.TheVariants.{By, Medium}
+use Rattle.ct_book.specs.declared.event.Event.TheVariants.{Came, Enter, Turned, Begun, Granted, Moved, Ended, Cut}
+use Rattle.ct_book.specs.declared.event.Event.TheVariants.{Asked, Closed, Deliver}
 use Rattle.ct_book.specs.declared.event.Logged.{Logged}
-use Rattle.ct_book.specs.Journals.{KeptWork, BookState, told_in, reply_of, is_command, line_of, has_room, with_work, arrived, numbered, works_in, reply_in, reply_at, IsInOrder, IsNumberedFrom}
+use Rattle.ct_book.specs.Journals.{KeptWork, BookState, told_in, reply_of, is_command, line_of, has_room, with_work}
+use Rattle.ct_book.specs.Journals.{arrived, numbered, works_in, reply_in, reply_at, IsInOrder, IsNumberedFrom}
 use Rattle.ct_book.specs.Facts.{About, NewWork, AnyWork, ACommand, AFunction, facts_of}
-use Rattle.ct_book.specs.Kept.{CanBePushed, IsAbout, StandsIf, IsAmongIf, work_at, logged_with, logged_all, IsSettled, IsSettledFrom, IsKept, IsBodyOf, AreKept, HasNexus}
+use Rattle.ct_book.specs.Kept.{CanBePushed, IsAbout, StandsIf, IsAmongIf, work_at, logged_with, logged_all, IsSettled}
+use Rattle.ct_book.specs.Kept.{IsSettledFrom, IsKept, IsBodyOf, AreKept, HasNexus}
 use Rattle.ct_book.proofs.Places.{get-push, get-write, numbered-within, numbered-stays, numbered-last, numbered-apart}
 
 -- how many works a journal has, by its first event and the others

@@ -11,6 +11,7 @@ use Rattle.ct_book.specs.declared.event.Why.TheVariants.{By}
 use Rattle.ct_book.specs.declared.event.Logged.{Logged}
 use Rattle.ct_book.specs.declared.event.Entry.{Entry}
 use Rattle.ct_book.specs.declared.event.Entry.TheVariants as entry
+use Rattle.ct_book.specs.Facts.{facts_of}
 use Rattle.ct_book.specs.Journals.{KeptWork, numbered, works_in}
 
 -- the numbers of the commands that a function, or another command, cut by so far
@@ -24,7 +25,8 @@ cut_by by (logged ∷ journal) = cut_at by logged.event ++ cut_by by journal
 
 -- a set with the nexus of a command, where it is another than the asker's
 abbrev pub with_other : Nexus → Option KeptWork → List Bool → List Bool
-with_other asker (Some (work.Cmd command)) set = if is_same_nexus command.nexus asker then set else with_nexus set command.nexus
+with_other asker (Some (work.Cmd command)) set =
+    if is_same_nexus command.nexus asker then set else with_nexus set command.nexus
 with_other asker _ set = set
 
 -- the nexuses of some commands, but the asker's
@@ -34,7 +36,8 @@ others_of asker works (number ∷ numbers) = with_other asker (numbered number w
 
 -- a set with the nexus of the command that an event says was cut by a work, where it is another than the asker's
 abbrev pub with_cut : ℕ → Nexus → List KeptWork → Event → List Bool → List Bool
-with_cut by asker works (event.Cut number puts (By cutter) told) set = if cutter == by then with_other asker (numbered number works) set else set
+with_cut by asker works (event.Cut number puts (By cutter) told) set =
+    if cutter == by then with_other asker (numbered number works) set else set
 with_cut by asker works _ set = set
 
 -- the set of a function's entry: for CLEAR TASK SET the other nexuses of which it cut a command
@@ -46,21 +49,23 @@ abbrev pub set_by : Option KeptWork → List KeptWork → List ℕ → List Bool
 set_by (Some (work.Ask ask)) works cut = set_of ask.function ask.nexus works cut
 set_by _ works cut = no_nexuses
 
+-- the entry of a function that an event behind a journal answers
+abbrev pub answered_at : List Logged → ℕ → Entry
+answered_at before number =
+    let works = works_in before in
+    entry.Func number (set_by (numbered number works) works (cut_by number before))
+
+-- how a work was done that was done by an event behind a journal: a command ended, was cut or refused, and else a
+-- function was answered
+abbrev pub entry_of : List Logged → Event → Entry
+entry_of before (event.Ended number) = entry.Ran number
+entry_of before (event.Cut number puts why told) = entry.Cut number puts why
+entry_of before (event.Turned number) = entry.Turned number
+entry_of before event = answered_at before (facts_of event).no
+
 -- the entry of an event behind a journal, if it is one by which a work is done
 abbrev pub entries_at : List Logged → Event → List Entry
-entries_at before (event.Ended number) = entry.Ran number ∷ []
-entries_at before (event.Cut number puts why told) = entry.Cut number puts why ∷ []
-entries_at before (event.Turned number) = entry.Turned number ∷ []
-entries_at before (event.Closed number outcome) =
-    let works = works_in before in
-    entry.Func number (set_by (numbered number works) works (cut_by number before)) ∷ []
-entries_at before (event.Came number node line) = []
-entries_at before (event.Enter number) = []
-entries_at before (event.Begun number) = []
-entries_at before (event.Granted number) = []
-entries_at before (event.Moved number count) = []
-entries_at before (event.Asked number) = []
-entries_at before (event.Deliver node kind number) = []
+entries_at before event = if (facts_of event).is_entry then entry_of before event ∷ [] else []
 
 abbrev pub history_behind : List Logged → List Logged → List Entry
 history_behind before [] = []

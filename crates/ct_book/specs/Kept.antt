@@ -1,14 +1,14 @@
 -- How a book is kept: the events by themselves, and the works, bodies and replies by number.
-use Rattle.std.specs.Prelude.{◌≡◌, ℕ, ◌+◌, ◌*◌, ◌<◌, ◌≤◌, ◌^◌, List, [], ◌∷◌, length, map, slice_get, Bool, true, false, Option, None, Some, IsSome, IfSome, IsSomeAnd}
+use Rattle.std.specs.Prelude.{◌≡◌, ℕ, ◌+◌, ◌*◌, ◌<◌, ◌≤◌, ◌^◌, List, [], ◌∷◌, length, map, slice_get, Bool, true, false}
+use Rattle.std.specs.Prelude.{Option, None, Some, IsSome, IfSome, IsSomeAnd}
 use Rattle.ct_word.specs.Kept.{Kept}
 use Rattle.ct_word.specs.declared.names.Room.{Room}
 use Rattle.ct_word.specs.Nexuses.{IsNexus}
 use Rattle.ct_sense.specs.declared.reply.Reply.{Reply}
 use Rattle.ct_book.specs.declared.work.Work.TheVariants as work
 use Rattle.ct_book.specs.declared.event.Event.{Event}
-use Rattle.ct_book.specs.declared.event.Event.TheVariants.{Came, Enter, Turned, Begun, Granted, Moved, Ended, Cut, Asked, Closed, Deliver}
-use Rattle.ct_book.specs.declared.event.Why.{Why}
-use Rattle.ct_book.specs.declared.event.Why.TheVariants.{By, Medium}
+use Rattle.ct_book.specs.declared.event.Event.TheVariants.{Came, Enter, Turned, Begun, Granted, Moved, Ended, Cut}
+use Rattle.ct_book.specs.declared.event.Event.TheVariants.{Asked, Closed, Deliver}
 use Rattle.ct_book.specs.declared.event.Logged.{Logged}
 use Rattle.ct_book.specs.Works.{IsReady}
 use Rattle.ct_book.specs.Facts.{About, NewWork, AnyWork, ACommand, AFunction, facts_of}

@@ -1,5 +1,6 @@
 -- Works come by arrivals alone, and take their room.
-use Rattle.std.proofs.Common.{◌≡◌, ℕ, Bool, true, false, List, [], ◌∷◌, ◌++◌, Option, Some, None, length, map, take, drop, refl, sym, ap, ◌∙◌, subst, cond, append-nil}
+use Rattle.std.proofs.Common.{◌≡◌, ℕ, Bool, true, false, List, [], ◌∷◌, ◌++◌, Option, Some, None, length, map, take}
+use Rattle.std.proofs.Common.{drop, refl, sym, ap, ◌∙◌, subst, cond, append-nil}
 use Rattle.std.specs.Prelude.{fold}
 use Rattle.std.proofs.lemmas.List.{map-append}
 use Rattle.ct_word.specs.declared.names.Node.{Node}
@@ -19,9 +20,11 @@ use Rattle.ct_machine.specs.declared.act.Act.{Act}
 use Rattle.ct_machine.specs.declared.act.Act.TheVariants as act
 use Rattle.ct_machine.specs.declared.act.Answer.TheVariants as answer
 use Rattle.ct_machine.specs.declared.act.Opening.{Opening}
-use Rattle.ct_machine.specs.States.{Stage, Waiting, Here, Granted, There, Over, Task, Open, Message, Arrival, State, disk_of, arrival_of, task_of, function_of}
-use Rattle.ct_machine.specs.Events.Sends.{message, to_b_if, came_at_b, answered}
-use Rattle.ct_machine.specs.Events.Arrivals.{entered, after_enter}
+use Rattle.ct_machine.specs.States.{Stage, Waiting, Here, Granted, There, Over, Task, Open, Message, Arrival, State}
+use Rattle.ct_machine.specs.States.{disk_of, arrival_of, task_of, function_of}
+use Rattle.ct_machine.specs.States.{is_remote}
+use Rattle.ct_machine.specs.Events.Sends.{message, to_b_if, came_remote, answered, to_a}
+use Rattle.ct_machine.specs.Events.Arrivals.{entered, after_enter, kind_of}
 use Rattle.ct_machine.specs.Events.Moves.{staged, moved_from, moved_at, after_moved}
 use Rattle.ct_machine.specs.Events.Ends.{leaves, executed_at_once, ended_at, after_ended, cut_at, after_cut}
 use Rattle.ct_machine.specs.Events.Functions.{asked_for, after_asked, works_of, closed}
@@ -31,16 +34,18 @@ use Rattle.ct_machine.specs.Acts.Turns.{Turn, nothing, writes, says}
 use Rattle.ct_machine.specs.Acts.Entries.{turned_cause, entering_with, entering}
 use Rattle.ct_machine.specs.Acts.Functions.{asking, open_numbers}
 use Rattle.ct_machine.specs.Acts.Answers.{Done}
-use Rattle.ct_machine.specs.Acts.Arrivals.{next_number, has_room_for, arriving_at}
-use Rattle.ct_machine.specs.Acts.Messages.{taking_in, coming_in, coming_to_a, coming_to, delivering_first, messages_to, delivering}
+use Rattle.ct_machine.specs.Acts.Arrivals.{next_number, has_room_for, arriving_at, arriving_here}
+use Rattle.ct_machine.specs.Acts.Messages.{taking_in, coming_in, coming_to_a, coming_to, delivering_first, messages_to}
+use Rattle.ct_machine.specs.Acts.Messages.{delivering}
 use Rattle.ct_machine.specs.Acts.Next.{next_step, stepping_next, doing_next}
 use Rattle.ct_machine.specs.Acts.{doing, act_of}
 use Rattle.ct_machine.specs.Runs.{replay, IsRun}
 use Rattle.ct_machine.specs.Laws.Works.{brought, room_without, Brings}
 use Rattle.ct_plan.proofs.Performing.{size_after_all}
-use Rattle.ct_law.proofs.Commands
+use Rattle.ct_law.proofs.Events.Nodes.{arriving_by, came_in}
+use Rattle.ct_law.proofs.Rows.Commands
 use Rattle.ct_law.proofs.Runs.{is_free, Turning, asks, closes_all, comes_to_b, steps, replay-act}
-use Rattle.ct_law.proofs.Comings.{every_run}
+use Rattle.ct_law.proofs.Walks.Comings.{every_run}
 
 -- no work came, and the blocks are as many
 pub record Still (before after : State) : Type 0 where
@@ -57,7 +62,7 @@ further s t u h k = record { arrivals = k.arrivals ∙ h.arrivals; room = k.room
 -- Events
 
 still_answered : (kind : Kind2) (number : ℕ) (s : State) → Still s (answered kind number s)
-still_answered kind number s = go (came_at_b (arrival_of number s))
+still_answered kind number s = go (came_remote (arrival_of number s))
   where
     go : (t : Bool) → Still s (to_b_if t (message kind number) s)
     go true = record { arrivals = refl; room = refl; size = refl }
@@ -98,12 +103,15 @@ still_answers : (what : Kind2) (number : ℕ) (s t : State) → Still s t → St
 still_answers what number s t h = further s t (answered what number t) h (still_answered what number t)
 
 still_leaves : (number : ℕ) (s : State) → Still s (answered kind.Reply number (leaves number s))
-still_leaves number s = still_answers kind.Reply number s (leaves number s) (record { arrivals = refl; room = refl; size = refl })
+still_leaves number s =
+    still_answers kind.Reply number s (leaves number s) (record { arrivals = refl; room = refl; size = refl })
 
 still_executed : (task : Task) (s : State) → Still s (executed_at_once task s)
 still_executed task s =
     let run = execute (disk_of s) task.command in
-    let h = still_answers kind.Reply task.no s (leaves task.no (record s { control = run.disk.control; blocks = run.disk.blocks }))
+    let h =
+    still_answers kind.Reply task.no s
+    (leaves task.no (record s { control = run.disk.control; blocks = run.disk.blocks }))
     (record { arrivals = refl; room = refl; size = Commands.laws.sizes (disk_of s) task.command }) in
     record { arrivals = h.arrivals; room = h.room; size = h.size }
 
@@ -201,7 +209,8 @@ still_event s (event.Ended number) w h = still_ended (task_of number s.tasks) s
 still_event s (event.Cut number puts why told) w h = still_cut why (task_of number s.tasks) s
 still_event s (event.Asked number) w h = still_asked number (arrival_of number s) s
 still_event s (event.Closed number outcome) w h =
-    still_answers kind.Response number s (closed (function_of number s.functions) s) (still_closed (function_of number s.functions) s)
+    still_answers kind.Response number s (closed (function_of number s.functions) s)
+    (still_closed (function_of number s.functions) s)
 still_event s (event.Deliver node what number) w h = still_deliver node what number s
 
 still_after : (s : State) (l : Logged) → comes l.event ≡ false → Still s (after s l)
@@ -268,7 +277,8 @@ still_delivering node s = go (messages_to node s)
         let first : Turn = says (event.Deliver node m.kind m.no) s in
         further s first.state (coming_to node m first.state).state (still_after s _ refl) (still_to node m first.state)
 
-still_next : (next : Option ℕ) (count : ℕ) (fault : Option ℕ) (s : State) → StillTurn s (stepping_next next count fault s).turn
+still_next : (next : Option ℕ) (count : ℕ) (fault : Option ℕ) (s : State) →
+    StillTurn s (stepping_next next count fault s).turn
 still_next None count fault s = same s
 still_next (Some number) count fault s = steps StillTurn stills (task_of number s.tasks) number count fault s
 
@@ -281,29 +291,66 @@ pub record Came (before after : State) (w : KeptWork) : Type 0 where
   pub size : length after.blocks ≡ length before.blocks
 
 came_then : (s t u : State) (w : KeptWork) → Came s t w → Still t u → Came s u w
-came_then s t u w h k = record { works = ap (λ xs. map (λ (x : Arrival). x.work) xs) k.arrivals ∙ h.works; room = k.room ∙ h.room; size = k.size ∙ h.size }
+came_then s t u w h k = record {
+  works = ap (λ xs. map (λ (x : Arrival). x.work) xs) k.arrivals ∙ h.works;
+  room = k.room
+      ∙ h.room;
+  size = k.size ∙ h.size;
+}
 
 came_first : (number : ℕ) (node : Node) (w : KeptWork) (s : State) → Came s (writes (arrived number node w) s).state w
 unfolding after
-came_first number A (work.Cmd command) s = record { works = map-append (λ (x : Arrival). x.work) s.arrivals (record { node = A; work = work.Cmd command } ∷ []); room = refl; size = refl }
-came_first number A (work.Ask ask) s = record { works = map-append (λ (x : Arrival). x.work) s.arrivals (record { node = A; work = work.Ask ask } ∷ []); room = refl; size = refl }
-came_first number B (work.Cmd command) s = record { works = map-append (λ (x : Arrival). x.work) s.arrivals (record { node = B; work = work.Cmd command } ∷ []); room = refl; size = refl }
-came_first number B (work.Ask ask) s = record { works = map-append (λ (x : Arrival). x.work) s.arrivals (record { node = B; work = work.Ask ask } ∷ []); room = refl; size = refl }
+came_first number node w s = go (is_remote node) w
+  where
+    go : (t : Bool) (w : KeptWork) →
+        Came s (cond {A = State} t (to_a (message (kind_of w) number) (came_in (record { node = node; work = w }) s))
+        (came_in (record { node = node; work = w }) s)) w
+    go true (work.Cmd command) = record {
+      works = map-append (λ (x : Arrival). x.work) s.arrivals
+          (record { node = node; work = work.Cmd command } ∷ []);
+      room = refl;
+      size = refl;
+    }
+    go true (work.Ask ask) = record {
+      works = map-append (λ (x : Arrival). x.work) s.arrivals
+          (record { node = node; work = work.Ask ask } ∷ []);
+      room = refl;
+      size = refl;
+    }
+    go false (work.Cmd command) = record {
+      works = map-append (λ (x : Arrival). x.work) s.arrivals
+          (record { node = node; work = work.Cmd command } ∷ []);
+      room = refl;
+      size = refl;
+    }
+    go false (work.Ask ask) = record {
+      works = map-append (λ (x : Arrival). x.work) s.arrivals
+          (record { node = node; work = work.Ask ask } ∷ []);
+      room = refl;
+      size = refl;
+    }
 
 came_at : (node : Node) (w : KeptWork) (number : ℕ) (s : State) → Came s (arriving_at node w number s).turn.state w
-came_at A (work.Cmd command) number s =
-    let first : Turn = writes (arrived number A (work.Cmd command)) s in
-    came_then s first.state (entering number command first.state).state (work.Cmd command) (came_first number A (work.Cmd command) s) (still_entering number (turned_cause first.state command) first.state)
-came_at A (work.Ask ask) number s =
-    let first : Turn = writes (arrived number A (work.Ask ask)) s in
-    came_then s first.state (asking number ask first.state).state (work.Ask ask) (came_first number A (work.Ask ask) s) (asks StillTurn stills number ask first.state)
-came_at B w number s = came_first number B w s
+came_at node w number s =
+    arriving_by (λ t. Came s t.state w) node w number s (λ there. came_first number node w s) (λ here. taken w)
+  where
+    taken : (w : KeptWork) → Came s (arriving_here node w number s).turn.state w
+    taken (work.Cmd command) =
+        let first : Turn = writes (arrived number node (work.Cmd command)) s in
+        came_then s first.state (entering number command first.state).state (work.Cmd command)
+        (came_first number node (work.Cmd command) s)
+        (still_entering number (turned_cause first.state command) first.state)
+    taken (work.Ask ask) =
+        let first : Turn = writes (arrived number node (work.Ask ask)) s in
+        came_then s first.state (asking number ask first.state).state (work.Ask ask)
+        (came_first number node (work.Ask ask) s) (asks StillTurn stills number ask first.state)
 
 -- Acts
 
 brings_none : (s t : State) (a : Act) → brought s a ≡ [] → Still s t → Brings s t a
 brings_none s t a none h = record {
-  works = ap (λ xs. map (λ (x : Arrival). x.work) xs) h.arrivals ∙ sym (append-nil (works_of s)) ∙ ap (λ ws. works_of s ++ ws) (sym none);
+  works = ap (λ xs. map (λ (x : Arrival). x.work) xs) h.arrivals ∙ sym (append-nil (works_of s)) ∙ ap
+      (λ ws. works_of s ++ ws) (sym none);
   room = h.room ∙ ap (λ ws. fold (room_without (length s.blocks)) s.room ws) (sym none);
   size = h.size;
 }
@@ -318,21 +365,32 @@ brings_one s t a w one h = record {
 brings : (s : State) (a : Act) (fault : Option ℕ) → Brings s (doing s a fault).turn.state a
 brings s (act.Arrive node w) fault = go (has_room_for w s) refl
   where
-    go : (t : Bool) → has_room_for w s ≡ t → Brings s (cond {A = Done} t (arriving_at node w (next_number s) s) (record { turn = nothing s; answer = answer.NoRoom w })).turn.state (act.Arrive node w)
-    go true e = brings_one s (arriving_at node w (next_number s) s).turn.state (act.Arrive node w) w (ap (λ t. cond t (w ∷ []) []) e) (came_at node w (next_number s) s)
+    go : (t : Bool) → has_room_for w s ≡ t →
+        Brings s (cond {A = Done} t (arriving_at node w (next_number s) s)
+        (record { turn = nothing s; answer = answer.NoRoom w })).turn.state (act.Arrive node w)
+    go true e =
+        brings_one s (arriving_at node w (next_number s) s).turn.state (act.Arrive node w) w
+        (ap (λ t. cond t (w ∷ []) []) e) (came_at node w (next_number s) s)
     go false e = brings_none s s (act.Arrive node w) (ap (λ t. cond t (w ∷ []) []) e) (same s)
-brings s (act.Step number count) fault = brings_none s (doing s (act.Step number count) fault).turn.state (act.Step number count) refl (steps StillTurn stills (task_of number s.tasks) number count fault s)
-brings s (act.Deliver node) fault = brings_none s (doing s (act.Deliver node) fault).turn.state (act.Deliver node) refl (still_delivering node s)
-brings s (act.Next count) fault = brings_none s (doing s (act.Next count) fault).turn.state (act.Next count) refl (go s.to_a s.to_b)
+brings s (act.Step number count) fault =
+    brings_none s (doing s (act.Step number count) fault).turn.state (act.Step number count) refl
+    (steps StillTurn stills (task_of number s.tasks) number count fault s)
+brings s (act.Deliver node) fault =
+    brings_none s (doing s (act.Deliver node) fault).turn.state (act.Deliver node) refl (still_delivering node s)
+brings s (act.Next count) fault =
+    brings_none s (doing s (act.Next count) fault).turn.state (act.Next count) refl (go s.to_a s.to_b)
   where
     go : (to_a to_b : List Message) → StillTurn s (doing_next to_a to_b count fault s).turn
     go (m ∷ ms) to_b = still_delivering A s
     go [] (m ∷ ms) = still_delivering B s
     go [] [] = still_next (next_step s) count fault s
 
-pub arrivals_alone : (o : Opening) (journal : List Logged) (a : Act) (fault : Option ℕ) → Brings (replay o journal) (replay o (journal ++ (act_of (replay o journal) a fault).journal)) a
+pub arrivals_alone : (o : Opening) (journal : List Logged) (a : Act) (fault : Option ℕ) →
+    Brings (replay o journal) (replay o (journal ++ (act_of (replay o journal) a fault).journal)) a
 unfolding act_of
-arrivals_alone o journal a fault = subst (λ t. Brings (replay o journal) t a) (sym (replay-act o journal a fault)) (brings (replay o journal) a fault)
+arrivals_alone o journal a fault =
+    subst (λ t. Brings (replay o journal) t a) (sym (replay-act o journal a fault)) (brings (replay o journal) a fault)
 
-pub works_kept : (o : Opening) (journal : List Logged) → IsRun o journal → works_of (replay o journal) ≡ works_in journal
+pub works_kept : (o : Opening) (journal : List Logged) → IsRun o journal →
+    works_of (replay o journal) ≡ works_in journal
 works_kept o journal run = (every_run Commands.laws o journal run).inv.frame.works

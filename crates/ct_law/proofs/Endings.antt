@@ -1,11 +1,12 @@
 -- A command that made block operations ends GOOD, or one of them compares and found a difference.
-use Rattle.std.proofs.Common.{◌≡◌, ℕ, inl, inr, Bool, true, false, ◌||◌, List, [], ◌∷◌, ◌++◌, Option, Some, None, length, take, drop, refl, sym, ap, ◌∙◌}
+use Rattle.std.proofs.Common.{◌≡◌, ℕ, inl, inr, Bool, true, false, ◌||◌, List, [], ◌∷◌, ◌++◌, Option, Some, None}
+use Rattle.std.proofs.Common.{length, take, drop, refl, sym, ap, ◌∙◌}
 use Rattle.std.proofs.Common.{subst, eqb-true, nat_eq, append_assoc, append-nil, take-append-drop}
 use Rattle.std.specs.List.{list_any}
 use Rattle.std.proofs.lemmas.Bool.{or_left, or_right}
 use Rattle.std.proofs.lemmas.List.{length-replicate}
 use Rattle.std.proofs.lemmas.List.Folds.{list_any-append}
-use Rattle.std.specs.Prelude.{replicate}
+use Rattle.std.specs.Prelude.{replicate, IfSome}
 use Rattle.ct_sense.specs.declared.reply.Reply.{Reply}
 use Rattle.ct_plan.specs.declared.operation.BlockOp.{BlockOp}
 use Rattle.ct_plan.specs.declared.operation.BlockOp.TheVariants as operations
@@ -19,12 +20,12 @@ use Rattle.ct_book.specs.Journals.{KeptWork, numbered, works_in}
 use Rattle.ct_exec.specs.Executions.{plan_in, reply_moved}
 use Rattle.ct_machine.specs.declared.act.Opening.{Opening}
 use Rattle.ct_machine.specs.Serial.{serial_disk}
-use Rattle.ct_machine.specs.Laws.Journals.{made_by, work_in, IsCommandOf}
+use Rattle.ct_machine.specs.Laws.Journals.{made_by, work_in, IsCommandOf, ended_by, AtEnd}
 use Rattle.ct_machine.specs.Laws.Cells.{Beside, progress_made, kept_if, moved_beside, beside_after, beside_behind}
 use Rattle.ct_machine.specs.Laws.Cells.{beside, RepliesByCells}
 use Rattle.ct_machine.specs.Laws.Endings.{is_compare, IsGoodOrDiffers, EndsGoodOrDiffersAt}
-use Rattle.ct_law.proofs.Growing.{works_in-more, work_list, numbered_front}
-use Rattle.ct_law.proofs.Blocks.{perform_size}
+use Rattle.ct_law.proofs.Journals.Growing.{works_in-more, work_list, numbered_front}
+use Rattle.ct_law.proofs.Cells.Blocks.{perform_size}
 
 -- a difference is found by an operation that compares
 compares : (out : List ℕ) (op : BlockOp) (cells : Cells) (offset : ℕ) →
@@ -44,8 +45,10 @@ one_compares out (op ∷ ops) cells offset e =
     others : Progress
     others = performed out ops (after out op cells)
 
-    go : (found : Option ℕ) → difference_at out op cells ≡ found → (unless found cells others).difference ≡ Some offset →
-        (others.difference ≡ Some offset → list_any is_compare ops ≡ true) → (is_compare op || list_any is_compare ops) ≡ true
+    go : (found : Option ℕ) → difference_at out op cells ≡ found →
+        (unless found cells others).difference ≡ Some offset →
+        (others.difference ≡ Some offset → list_any is_compare ops ≡ true) →
+        (is_compare op || list_any is_compare ops) ≡ true
     go None is differs later = or_right (is_compare op) _ (later differs)
     go (Some at) is differs later = or_left _ _ (compares out op cells at is)
 
@@ -90,12 +93,14 @@ found_more o n journal e b h = go e.event
         Found o n (journal ++ e ∷ [])
         (kept_if t (progress_made c made count (record { blocks = b.blocks; got = b.got }) (length b.blocks)) b)
     by number made count c known false is = record {
-      size = perform_size c.out (take count (drop made (plan_in (length b.blocks) c))) (record { blocks = b.blocks; got = b.got })
+      size = perform_size c.out (take count (drop made (plan_in (length b.blocks) c)))
+          (record { blocks = b.blocks; got = b.got })
           ∙ h.size;
       compares = same.compares;
     }
     by number made count c known true is = record {
-      size = perform_size c.out (take count (drop made (plan_in (length b.blocks) c))) (record { blocks = b.blocks; got = b.got })
+      size = perform_size c.out (take count (drop made (plan_in (length b.blocks) c)))
+          (record { blocks = b.blocks; got = b.got })
           ∙ h.size;
       compares = λ offset differs. (
         c,
@@ -103,7 +108,8 @@ found_more o n journal e b h = go e.event
         ap (λ k. list_any is_compare (plan_in k c)) (sym h.size)
             ∙ some_dropped made (plan_in (length b.blocks) c)
             (some_taken count (drop made (plan_in (length b.blocks) c))
-            (one_compares c.out (take count (drop made (plan_in (length b.blocks) c))) (record { blocks = b.blocks; got = b.got }) offset differs)),
+            (one_compares c.out (take count (drop made (plan_in (length b.blocks) c)))
+            (record { blocks = b.blocks; got = b.got }) offset differs)),
       );
     }
 
@@ -136,21 +142,23 @@ found_behind o n before (e ∷ journal) b h =
 found_in : (o : Opening) (n : ℕ) (journal : List Logged) → Found o n journal (beside o n journal)
 unfolding beside
 found_in o n journal =
-    found_behind o n [] journal _ (record { size = length-replicate o.blocks (replicate 512 0); compares = λ offset e. absurd (cc) })
+    found_behind o n [] journal _
+    (record { size = length-replicate o.blocks (replicate 512 0); compares = λ offset e. absurd (cc) })
 
 pub ends_good : (o : Opening) (before : List Logged) (happened : Event) (replied : Option Reply) →
-    RepliesByCells o before happened replied → EndsGoodOrDiffersAt o before happened replied
-ends_good o before (event.Ended n) replied h = λ c known began. go c known (beside o n before).difference refl (h began)
+    AtEnd (RepliesByCells o before replied) happened → AtEnd (EndsGoodOrDiffersAt o before replied) happened
+ends_good o before happened replied h = at (ended_by happened) h
   where
-    go : (c : Command) → IsCommandOf before n c → (found : Option ℕ) → (beside o n before).difference ≡ found →
-        replied ≡ Some (reply_moved (serial_disk o before).control (beside o n before).difference (beside o n before).got) →
+    go : (n : ℕ) (c : Command) → IsCommandOf before n c → (found : Option ℕ) → (beside o n before).difference ≡ found →
+        replied ≡ Some (reply_moved (serial_disk o before).control (beside o n before).difference
+        (beside o n before).got) →
         IsGoodOrDiffers (serial_disk o before).control (plan_in o.blocks c) replied
-    go c known None is e =
+    go n c known None is e =
         inl (
           (beside o n before).got,
           e ∙ ap (λ f. Some (reply_moved (serial_disk o before).control f (beside o n before).got)) is,
         )
-    go c known (Some offset) is e =
+    go n c known (Some offset) is e =
         let found = (found_in o n before).compares offset is in
         let same : found.0 ≡ c = let k : Some (work.Cmd found.0) ≡ Some (work.Cmd c) = sym found.1 ∙ known in cc in
         inr (
@@ -158,13 +166,8 @@ ends_good o before (event.Ended n) replied h = λ c known began. go c known (bes
           ap (λ z. list_any is_compare (plan_in o.blocks z)) (sym same) ∙ found.2,
           e ∙ ap (λ f. Some (reply_moved (serial_disk o before).control f (beside o n before).got)) is,
         )
-ends_good o before (event.Came number node line) replied h = tt
-ends_good o before (event.Enter number) replied h = tt
-ends_good o before (event.Turned number) replied h = tt
-ends_good o before (event.Begun number) replied h = tt
-ends_good o before (event.Granted number) replied h = tt
-ends_good o before (event.Moved number count) replied h = tt
-ends_good o before (event.Cut number puts why told) replied h = tt
-ends_good o before (event.Asked number) replied h = tt
-ends_good o before (event.Closed number outcome) replied h = tt
-ends_good o before (event.Deliver node kind number) replied h = tt
+
+    at : (ended : Option ℕ) → IfSome ended (RepliesByCells o before replied) →
+        IfSome ended (EndsGoodOrDiffersAt o before replied)
+    at None h = tt
+    at (Some n) h = λ c known began. go n c known (beside o n before).difference refl (h began)

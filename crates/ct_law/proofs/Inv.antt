@@ -13,35 +13,35 @@ use Rattle.ct_machine.specs.declared.act.Opening.{Opening}
 use Rattle.ct_machine.specs.States.{Task, Stage, Waiting, Here, There, Arrival, State, is_waiting, has_begun}
 use Rattle.ct_machine.specs.Events.Functions.{works_of}
 use Rattle.ct_machine.specs.Serial.{disk_after, serial_disk}
-use Rattle.ct_machine.specs.Laws.Journals.{Each, has, is_entry, is_begin, is_enter, comes_first, IsCommandOf}
+use Rattle.ct_machine.specs.Laws.Journals.{Each, has, is_entry, is_begin, is_enter, comes_first, IsCommandOf, AtEnd}
 use Rattle.ct_machine.specs.Laws.Once.{IsFirstEntry}
 use Rattle.ct_machine.specs.Laws.Orderly.{goes_first, IsBehindAll, BeginsOrderly}
-use Rattle.ct_machine.specs.Laws.Reorders.{ReordersAtRestAt}
+use Rattle.ct_machine.specs.Laws.Reorders.{KeepsOrder}
 use Rattle.ct_machine.specs.Laws.Prefix.{RecordsPrefixAt}
 use Rattle.ct_machine.specs.Laws.Cells.{RepliesByCells, MakesPlanAt, Beside, beside, beside_after}
 use Rattle.ct_machine.specs.Laws.Kinds.{IsOfItsKind}
 use Rattle.ct_machine.specs.Laws.Standings.{standings_of}
 use Rattle.ct_machine.specs.Laws.Legal.{IsRestricted, IsLegalAt, IsSoundAt}
-use Rattle.ct_law.proofs.Tasks.{Has}
-use Rattle.ct_law.proofs.Laws.{Laws}
-use Rattle.ct_law.proofs.Held.{Rules, Holds}
-use Rattle.ct_law.proofs.Ready.{IsReady}
-use Rattle.ct_law.proofs.Ends.{ready_must}
-use Rattle.ct_law.proofs.Journal.{each_front, each_last}
-use Rattle.ct_law.proofs.Growing.{numbered-map, serial-more, beside-more}
-use Rattle.ct_law.proofs.Books.{Books, is_over, arrival_for}
-use Rattle.ct_law.proofs.Orders.{Orders}
-use Rattle.ct_law.proofs.Opens.{Opens}
+use Rattle.ct_law.proofs.Lists.Tasks.{Has}
+use Rattle.ct_law.proofs.Rows.Laws.{Laws}
+use Rattle.ct_law.proofs.Cells.Held.{Rules, Holds}
+use Rattle.ct_law.proofs.Rows.Ready.{IsReady}
+use Rattle.ct_law.proofs.Cells.Ends.{ready_must}
+use Rattle.ct_law.proofs.Journals.Journal.{each_front, each_last}
+use Rattle.ct_law.proofs.Journals.Growing.{numbered-map, serial-more, beside-more}
+use Rattle.ct_law.proofs.Frame.Books.{Books, is_over, arrival_for}
+use Rattle.ct_law.proofs.Frame.Orders.{Orders}
+use Rattle.ct_law.proofs.Frame.Opens.{Opens}
 
 -- what a journal owes at an event
 pub record LawfulAt (o : Opening) (before : List Logged) (l : Logged) : Type 0 where
   pub once : IsFirstEntry before l
   pub typed : IsOfItsKind before l.event
   pub orderly : BeginsOrderly o before l.event
-  pub reorders : ReordersAtRestAt o before l.event
+  pub reorders : AtEnd (KeepsOrder o before) l.event
   pub plan : MakesPlanAt o before l.event
   pub prefix : RecordsPrefixAt o before l.event
-  pub cells : RepliesByCells o before l.event l.reply
+  pub cells : AtEnd (RepliesByCells o before l.reply) l.event
   pub sound : IsSoundAt (standings_of o) o before l.event l.reply
   pub legal : IsRestricted o before → IsLegalAt (standings_of o) o before l.event l.reply
 
@@ -105,16 +105,22 @@ abbrev pub replied : Event → Reply → Logged
 replied happened reply = record { event = happened; work = None; reply = Some reply }
 
 -- the modifier says restricted now, where it said so all along
-pub restricted_before : (o : Opening) (journal : List Logged) (e : Logged) → IsRestricted o (journal ++ e ∷ []) → IsRestricted o journal
-restricted_before o journal e r = record { each = each_front Q [] journal e r.each; last = each_last Q [] journal e r.each }
+pub restricted_before : (o : Opening) (journal : List Logged) (e : Logged) → IsRestricted o (journal ++ e ∷ []) →
+    IsRestricted o journal
+restricted_before o journal e r = record {
+  each = each_front Q [] journal e r.each;
+  last = each_last Q [] journal e r.each;
+}
   where
     Q : List Logged → Logged → Type 0
     Q before l = is_unrestricted (serial_disk o before).control ≡ false
 
 -- a command of the task set is the work of its number
-pub known_in : (P : ℕ → ℕ → Type 0) (o : Opening) (s : State) (journal : List Logged) (x : Task) → Frame P o s journal → Has s.tasks x → IsCommandOf journal x.no x.command
+pub known_in : (P : ℕ → ℕ → Type 0) (o : Opening) (s : State) (journal : List Logged) (x : Task) → Frame P o s journal →
+    Has s.tasks x → IsCommandOf journal x.no x.command
 known_in P o s journal x h hx =
-    ap (numbered x.no) (sym h.works) ∙ numbered-map (λ (a : Arrival). a.work) x.no s.arrivals (arrival_for x) (h.books.known x hx)
+    ap (numbered x.no) (sym h.works) ∙ numbered-map (λ (a : Arrival). a.work) x.no s.arrivals (arrival_for x)
+    (h.books.known x hx)
 
 -- an event that ends nothing leaves the serial disk
 abbrev pub is_done : Event → Bool
@@ -143,7 +149,8 @@ still_disk before (event.Moved number count) d h = refl
 still_disk before (event.Asked number) d h = refl
 still_disk before (event.Deliver node kind number) d h = refl
 
-pub serial-same : (o : Opening) (journal : List Logged) (e : Logged) → is_done e.event ≡ false → serial_disk o (journal ++ e ∷ []) ≡ serial_disk o journal
+pub serial-same : (o : Opening) (journal : List Logged) (e : Logged) → is_done e.event ≡ false →
+    serial_disk o (journal ++ e ∷ []) ≡ serial_disk o journal
 serial-same o journal e h = serial-more o journal e ∙ still_disk journal e.event (serial_disk o journal) h
 
 -- an event that moves nothing leaves the cells
@@ -160,7 +167,8 @@ is_move (event.Granted number) = false
 is_move (event.Asked number) = false
 is_move (event.Deliver node kind number) = false
 
-still_beside : (n : ℕ) (before : List Logged) (e : Event) (b : Beside) → is_move e ≡ false → beside_after n before e b ≡ b
+still_beside : (n : ℕ) (before : List Logged) (e : Event) (b : Beside) → is_move e ≡ false →
+    beside_after n before e b ≡ b
 still_beside n before (event.Moved number count) b h = absurd (cc)
 still_beside n before (event.Ended number) b h = refl
 still_beside n before (event.Cut number puts why told) b h = refl
@@ -173,7 +181,8 @@ still_beside n before (event.Granted number) b h = refl
 still_beside n before (event.Asked number) b h = refl
 still_beside n before (event.Deliver node kind number) b h = refl
 
-pub beside-same : (o : Opening) (n : ℕ) (journal : List Logged) (e : Logged) → is_move e.event ≡ false → beside o n (journal ++ e ∷ []) ≡ beside o n journal
+pub beside-same : (o : Opening) (n : ℕ) (journal : List Logged) (e : Logged) → is_move e.event ≡ false →
+    beside o n (journal ++ e ∷ []) ≡ beside o n journal
 beside-same o n journal e h = beside-more o n journal e ∙ still_beside n journal e.event (beside o n journal) h
 
 -- the cells after such an event: what each command that isn't over got, it got before
@@ -199,7 +208,9 @@ cells_quiet o s now journal e h still same tasks old =
     (λ y hy alive. h.gained y (subst (λ q. Has q y) tasks hy) alive) (λ n k. h.ungained n (old n k))
 
 -- a command that is ready begins in order
-pub in_order : (P : ℕ → ℕ → Type 0) (laws : Laws) (o : Opening) (s : State) (journal : List Logged) (x : Task) → Inv P o s journal → Has s.tasks x → x.stage ≡ Waiting → IsReady o.blocks (is_unrestricted s.control) x s.tasks → IsBehindAll o journal x.no
+pub in_order : (P : ℕ → ℕ → Type 0) (laws : Laws) (o : Opening) (s : State) (journal : List Logged) (x : Task) →
+    Inv P o s journal → Has s.tasks x → x.stage ≡ Waiting → IsReady o.blocks (is_unrestricted s.control) x s.tasks →
+    IsBehindAll o journal x.no
 in_order P laws o s journal x h hx st ready a ca cb ne wa wb entered m = go (has (is_entry a) journal) refl
   where
     go : (t : Bool) → has (is_entry a) journal ≡ t → has (is_entry a) journal ≡ true
@@ -207,17 +218,26 @@ in_order P laws o s journal x h hx st ready a ca cb ne wa wb entered m = go (has
     go false e =
         let live = h.frame.books.live a entered e in
         let y : Task = live.0 in
-        let alive : is_over y.stage ≡ false = sym (h.frame.books.entry y live.1) ∙ ap (λ n. has (is_entry n) journal) live.2 ∙ e in
+        let alive : is_over y.stage ≡ false =
+        sym (h.frame.books.entry y live.1) ∙ ap (λ n. has (is_entry n) journal) live.2 ∙ e in
         let other : y.no ≡ x.no → ⊥ = λ k. ne (sym live.2 ∙ k) in
-        let cy : y.command ≡ ca = let k : Some (work.Cmd y.command) ≡ Some (work.Cmd ca) = sym (known_in P o s journal y h.frame live.1) ∙ ap (λ n. numbered n (works_in journal)) live.2 ∙ wa in cc in
-        let cx : x.command ≡ cb = let k : Some (work.Cmd x.command) ≡ Some (work.Cmd cb) = sym (known_in P o s journal x h.frame hx) ∙ wb in cc in
-        let began : has (is_begin a) journal ≡ has_begun y.stage = ap (λ n. has (is_begin n) journal) (sym live.2) ∙ h.frame.books.begin y live.1 alive in
+        let cy : y.command ≡ ca = let k : Some (work.Cmd y.command) ≡ Some (work.Cmd ca) = sym
+        (known_in P o s journal y h.frame live.1) ∙ ap (λ n. numbered n (works_in journal)) live.2 ∙ wa in cc in
+        let cx : x.command ≡ cb = let k : Some (work.Cmd x.command) ≡ Some (work.Cmd cb) = sym
+        (known_in P o s journal x h.frame hx) ∙ wb in cc in
+        let began : has (is_begin a) journal ≡ has_begun y.stage =
+        ap (λ n. has (is_begin n) journal) (sym live.2) ∙ h.frame.books.begin y live.1 alive in
         let first : Bool = comes_first (is_enter a) (is_enter x.no) journal in
         let free : Bool = is_unrestricted s.control in
-        let m0 : goes_first o.blocks free first (has (is_begin a) journal) ca cb ≡ true = subst (λ k. goes_first o.blocks (is_unrestricted k) first (has (is_begin a) journal) ca cb ≡ true) (sym h.rules.control) m in
+        let m0 : goes_first o.blocks free first (has (is_begin a) journal) ca cb ≡ true =
+        subst (λ k. goes_first o.blocks (is_unrestricted k) first (has (is_begin a) journal) ca cb ≡ true)
+        (sym h.rules.control) m in
         let m1 : goes_first o.blocks free first (has_begun y.stage) y.command x.command ≡ true =
-        subst (λ b. goes_first o.blocks free first b y.command x.command ≡ true) began (subst (λ c. goes_first o.blocks free first (has (is_begin a) journal) y.command c ≡ true) (sym cx) (subst (λ c. goes_first o.blocks free first (has (is_begin a) journal) c cb ≡ true) (sym cy) m0)) in
+        subst (λ b. goes_first o.blocks free first b y.command x.command ≡ true) began
+        (subst (λ c. goes_first o.blocks free first (has (is_begin a) journal) y.command c ≡ true) (sym cx)
+        (subst (λ c. goes_first o.blocks free first (has (is_begin a) journal) c cb ≡ true) (sym cy) m0)) in
         let never = ready_must laws o.blocks free first s.tasks x y h.rules.single ready st live.1 other
-        (λ hd f. h.frame.orders.first y x live.1 hx other hd (subst (λ n. comes_first (is_enter n) (is_enter x.no) journal ≡ true) (sym live.2) f))
+        (λ hd f. h.frame.orders.first y x live.1 hx other hd
+        (subst (λ n. comes_first (is_enter n) (is_enter x.no) journal ≡ true) (sym live.2) f))
         (λ hd hh. h.frame.orders.head y x live.1 hx other hd hh (ap is_waiting st)) in
         absurd (both_ways _ never m1)

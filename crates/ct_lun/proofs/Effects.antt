@@ -15,7 +15,7 @@ use Rattle.ct_exec.specs.Executions.{Execution, execute}
 use Rattle.ct_machine.specs.States.{Stage, Waiting, Here, Task, Message, State, disk_of, arrival_of, task_of, without_task, with_task, at_stage, is_remote}
 use Rattle.ct_machine.specs.Events.{after, after_events, after_event}
 use Rattle.ct_machine.specs.Events.Ends.{ended_at, cut_at, leaves, is_cleared, stops_with}
-use Rattle.ct_machine.specs.Events.Sends.{answered, came_at_b, stop}
+use Rattle.ct_machine.specs.Events.Sends.{answered, came_remote, stop}
 use Rattle.ct_lun.specs.declared.slot.Slot.{Slot}
 use Rattle.ct_lun.specs.Apart.{Each}
 use Rattle.ct_lun.specs.Desk.{Desk, slot_at, with_control}
@@ -41,16 +41,16 @@ wrote_then d d' d2 p p' p2 es fs a b = record {
 
 -- every work came at A, so nothing is sent
 
-came_get : (works : List KeptWork) (place : ℕ) → came_at_b (slice_get (map at_a works) place) ≡ false
+came_get : (works : List KeptWork) (place : ℕ) → came_remote (slice_get (map at_a works) place) ≡ false
 came_get [] place = refl
 came_get (came ∷ works) zero = refl
 came_get (came ∷ works) (suc place) = came_get works place
 
-pub came_here : (works : List KeptWork) (number : ℕ) → came_at_b (numbered number (map at_a works)) ≡ false
+pub came_here : (works : List KeptWork) (number : ℕ) → came_remote (numbered number (map at_a works)) ≡ false
 came_here works zero = refl
 came_here works (suc before) = came_get works before
 
-pub answered_here : (number : ℕ) (s : State) → came_at_b (arrival_of number s) ≡ false → answered kind.Reply number s ≡ s
+pub answered_here : (number : ℕ) (s : State) → came_remote (arrival_of number s) ≡ false → answered kind.Reply number s ≡ s
 answered_here number s here = rw here refl
 
 pub stage_begun : (slot : Slot) → slot.begun ≡ true → stage_of slot ≡ Here slot.task.done slot.task.body.items
@@ -69,10 +69,10 @@ left_state d d' p p' at a h l works commands functions pieces =
 
 -- a command that began ends, or the medium fails it
 
-ended_here : (task : Task) (done : ℕ) (got : List ℕ) (s : State) → task.stage ≡ Here done got → came_at_b (arrival_of task.no s) ≡ false → ended_at task.stage task s ≡ leaves task.no s
+ended_here : (task : Task) (done : ℕ) (got : List ℕ) (s : State) → task.stage ≡ Here done got → came_remote (arrival_of task.no s) ≡ false → ended_at task.stage task s ≡ leaves task.no s
 ended_here task done got s stage here = rw stage (answered_here task.no (leaves task.no s) here)
 
-failed_here : (task : Task) (done : ℕ) (got : List ℕ) (s : State) → task.stage ≡ Here done got → came_at_b (arrival_of task.no s) ≡ false → cut_at Medium task.stage task s ≡ leaves task.no s
+failed_here : (task : Task) (done : ℕ) (got : List ℕ) (s : State) → task.stage ≡ Here done got → came_remote (arrival_of task.no s) ≡ false → cut_at Medium task.stage task s ≡ leaves task.no s
 failed_here task done got s stage here = rw stage (answered_here task.no (leaves task.no s) here)
 
 over_state : (d : Desk) (p : BookState) (at : ℕ) (e : Event) → Agrees d p → at < length d.slots → (slot_at d.slots at).begun ≡ true → IsOver (slot_at d.slots at).no e → after_event e None (state_of d p) ≡ leaves (slot_at d.slots at).no (state_of d p)
@@ -148,7 +148,7 @@ executed_by execution task s =
     let left = answered kind.Reply task.no (leaves task.no (record s { control = execution.disk.control; blocks = execution.disk.blocks })) in
     record left { to_b = left.to_b ++ stops_with (tells_aborts s.control) task.no execution.cleared left.tasks }
 
-executed_state : (task : Task) (s : State) (control : ControlState) (reply : Reply) (cleared : List Bool) → s.to_b ≡ [] → came_at_b (arrival_of task.no s) ≡ false → Each IsAtA s.tasks → execute (disk_of s) task.command ≡ record { disk = record { control = control; blocks = s.blocks }; reply = reply; cleared = cleared }
+executed_state : (task : Task) (s : State) (control : ControlState) (reply : Reply) (cleared : List Bool) → s.to_b ≡ [] → came_remote (arrival_of task.no s) ≡ false → Each IsAtA s.tasks → execute (disk_of s) task.command ≡ record { disk = record { control = control; blocks = s.blocks }; reply = reply; cleared = cleared }
     → ended_at Waiting task s ≡ leaves task.no (record s { control = control })
 unfolding executed_by
 executed_state task s control reply cleared none here at_a e =

@@ -1,14 +1,14 @@
 -- Runs of the machine: what acts write, one after another, from an opening.
 use Rattle.std.specs.Prelude.{◌≡◌, ◌≢◌, ℕ, ◌≤◌, List, [], ◌++◌, Option, fold}
+use Rattle.std.specs.Bool.{OnTrue}
 use Rattle.std.specs.List.{All}
 use Rattle.ct_word.specs.declared.names.Ha.TheVariants.{None}
 use Rattle.ct_word.specs.declared.names.Node.{Node}
-use Rattle.ct_word.specs.declared.names.Node.TheVariants.{A, B}
 use Rattle.ct_book.specs.declared.event.Logged.{Logged}
 use Rattle.ct_machine.specs.declared.act.Act.{Act}
 use Rattle.ct_machine.specs.declared.act.Act.TheVariants as act
 use Rattle.ct_machine.specs.declared.act.Opening.{Opening}
-use Rattle.ct_machine.specs.States.{State, opened}
+use Rattle.ct_machine.specs.States.{State, opened, is_remote}
 use Rattle.ct_machine.specs.Events.{after_events}
 use Rattle.ct_machine.specs.Acts.{act_of}
 
@@ -16,10 +16,9 @@ use Rattle.ct_machine.specs.Acts.{act_of}
 unfoldable pub replay : Opening → List Logged → State
 replay o journal = after_events (opened o) journal
 
--- the acts that can come: works at B where there is a node B, and steps of at least one block operation
+-- the acts that can come: works at the other node where there is one, and steps of at least one block operation
 abbrev pub IsAtNode : Opening → Node → Type 0
-IsAtNode o A = Unit {0}
-IsAtNode o B = o.ha ≢ None
+IsAtNode o node = OnTrue (is_remote node) (o.ha ≢ None)
 
 abbrev pub IsAllowed : Opening → Act → Type 0
 IsAllowed o (act.Arrive node came) = IsAtNode o node

@@ -25,7 +25,7 @@ use Rattle.ct_machine.specs.Acts.Arrivals.{next_number, has_room_for, arriving, 
 use Rattle.ct_machine.specs.Acts.Steps.{stepping}
 use Rattle.ct_machine.specs.Acts.Next.{stepping_next, next_step}
 use Rattle.ct_machine.specs.Runs.{replay, IsAtNode, IsAllowed, Move, written, journal_of, IsRun}
-use Rattle.ct_law.proofs.Growing.{replay-append}
+use Rattle.ct_law.proofs.Journals.Growing.{replay-append}
 use Rattle.ct_lun.specs.Desk.{Desk}
 use Rattle.ct_lun.specs.States.{at_a, state_of}
 use Rattle.ct_lun.specs.Agreement.{AgreesWith}

@@ -15,7 +15,7 @@ use Rattle.ct_book.specs.declared.event.Logged.{Logged}
 use Rattle.ct_book.specs.Journals.{KeptWork, works_in}
 use Rattle.ct_machine.specs.declared.act.Opening.{Opening}
 use Rattle.ct_machine.specs.States.{Stage, Waiting, Here, Granted, There, Over, Task, Open, Message, Arrival, State, opened, arrival_of, task_of, function_of}
-use Rattle.ct_machine.specs.Events.Sends.{message, came_at_b, to_b_if, answered}
+use Rattle.ct_machine.specs.Events.Sends.{message, came_remote, to_b_if, answered}
 use Rattle.ct_machine.specs.Events.Arrivals.{pieces_of, with_room, sent_from, after_came, entered, after_enter}
 use Rattle.ct_machine.specs.Events.Moves.{staged, moved_at, after_moved}
 use Rattle.ct_machine.specs.Events.Ends.{leaves, ended_at, after_ended, cut_at, after_cut}
@@ -33,7 +33,7 @@ told true m s = refl
 told false m s = refl
 
 answers : (k : Kind2) (number : ℕ) (s : State) → Stays s (answered k number s)
-answers k number s = told (came_at_b (arrival_of number s)) (message k number) s
+answers k number s = told (came_remote (arrival_of number s)) (message k number) s
 
 enters : (number : ℕ) (found : Option Arrival) (s : State) → Stays s (after_enter number found s)
 enters number None s = refl

@@ -16,14 +16,14 @@ to_a sent s = record s { to_a = s.to_a ++ sent ∷ [] }
 abbrev pub to_b : Message → State → State
 to_b sent s = record s { to_b = s.to_b ++ sent ∷ [] }
 
--- what came at B is answered there
+-- what came at the other node is answered there, by a message to B
 abbrev pub to_b_if : Bool → Message → State → State
 to_b_if true sent s = to_b sent s
 to_b_if false sent s = s
 
-abbrev pub came_at_b : Option Arrival → Bool
-came_at_b (Some arrival) = is_remote arrival.node
-came_at_b None = false
+abbrev pub came_remote : Option Arrival → Bool
+came_remote (Some arrival) = is_remote arrival.node
+came_remote None = false
 
 abbrev pub answered : Kind2 → ℕ → State → State
-answered kind number s = to_b_if (came_at_b (arrival_of number s)) (message kind number) s
+answered kind number s = to_b_if (came_remote (arrival_of number s)) (message kind number) s

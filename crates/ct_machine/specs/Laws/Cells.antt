@@ -1,5 +1,6 @@
 -- The blocks and data beside the journal: each `moved` makes its operations, in order.
-use Rattle.std.specs.Prelude.{◌≡◌, ℕ, ◌+◌, ◌-◌, List, [], ◌∷◌, ◌++◌, length, take, drop, Bool, true, false, ◌==◌, if◌then◌else◌, Option, None, Some}
+use Rattle.std.specs.Prelude.{◌≡◌, ℕ, List, [], ◌∷◌, ◌++◌, length, take, drop, Bool, true, false, ◌==◌}
+use Rattle.std.specs.Prelude.{Option, None, Some}
 use Rattle.ct_sense.specs.declared.reply.Reply.{Reply}
 use Rattle.ct_plan.specs.Cells.{Cells, Progress, performed}
 use Rattle.ct_book.specs.declared.work.Command.{Command}
@@ -13,11 +14,12 @@ use Rattle.ct_exec.specs.Executions.{plan_in, reply_moved}
 use Rattle.ct_machine.specs.declared.act.Opening.{Opening}
 use Rattle.ct_machine.specs.Runs.{replay}
 use Rattle.ct_machine.specs.Serial.{serial_disk}
-use Rattle.ct_machine.specs.Laws.Journals.{Each, has, is_begin, made_by, work_in, IsCommandOf}
+use Rattle.ct_machine.specs.Laws.Journals.{Each, has, is_begin, made_by, work_in, IsCommandOf, AtEnd}
 
 -- the blocks, and of one command the data so far and the difference that it found
 abbrev pub progress_made : Command → ℕ → ℕ → Cells → ℕ → Progress
-progress_made command made count cells blocks = performed command.out (take count (drop made (plan_in blocks command))) cells
+progress_made command made count cells blocks =
+    performed command.out (take count (drop made (plan_in blocks command))) cells
 
 pub record Beside : Type 0 where
   pub blocks : List (List ℕ)
@@ -25,12 +27,14 @@ pub record Beside : Type 0 where
   pub difference : Option ℕ
 
 abbrev pub kept_if : Bool → Progress → Beside → Beside
-kept_if true progress beside = record { blocks = progress.cells.blocks; got = progress.cells.got; difference = progress.difference }
+kept_if true progress beside =
+    record { blocks = progress.cells.blocks; got = progress.cells.got; difference = progress.difference }
 kept_if false progress beside = record beside { blocks = progress.cells.blocks }
 
 abbrev pub moved_beside : ℕ → ℕ → ℕ → ℕ → Option KeptWork → Beside → Beside
 moved_beside wanted number made count (Some (work.Cmd command)) beside =
-    kept_if (number == wanted) (progress_made command made count (record { blocks = beside.blocks; got = beside.got }) (length beside.blocks)) beside
+    let cells : Cells = record { blocks = beside.blocks; got = beside.got } in
+    kept_if (number == wanted) (progress_made command made count cells (length beside.blocks)) beside
 moved_beside wanted number made count _ beside = beside
 
 abbrev pub beside_after : ℕ → List Logged → Event → Beside → Beside
@@ -55,27 +59,18 @@ beside_behind wanted before beside (logged ∷ journal) =
 -- each `moved` makes its operations on the cells, in order; what the command with a number got and found meanwhile
 unfoldable pub beside : Opening → ℕ → List Logged → Beside
 beside o wanted journal =
-    beside_behind wanted [] (record { blocks = (opening_disk o.lun o.blocks).blocks; got = []; difference = None }) journal
+    let opened : Beside = record { blocks = (opening_disk o.lun o.blocks).blocks; got = []; difference = None } in
+    beside_behind wanted [] opened journal
 
 -- the reply of a command that moved has the data that it got from the cells, or the first difference that it found
-abbrev pub RepliesByCells : Opening → List Logged → Event → Option Reply → Type 0
-RepliesByCells o before (event.Ended number) replied =
+abbrev pub RepliesByCells : Opening → List Logged → Option Reply → ℕ → Type 0
+RepliesByCells o before replied number =
     has (is_begin number) before ≡ true →
     let found = beside o number before in
     replied ≡ Some (reply_moved (serial_disk o before).control found.difference found.got)
-RepliesByCells o before (event.Came number node line) replied = Unit {0}
-RepliesByCells o before (event.Enter number) replied = Unit {0}
-RepliesByCells o before (event.Turned number) replied = Unit {0}
-RepliesByCells o before (event.Begun number) replied = Unit {0}
-RepliesByCells o before (event.Granted number) replied = Unit {0}
-RepliesByCells o before (event.Moved number count) replied = Unit {0}
-RepliesByCells o before (event.Cut number puts why told) replied = Unit {0}
-RepliesByCells o before (event.Asked number) replied = Unit {0}
-RepliesByCells o before (event.Closed number outcome) replied = Unit {0}
-RepliesByCells o before (event.Deliver node kind number) replied = Unit {0}
 
--- a command that found a difference isn't moved on, nor cut; one that ends behind its begin without a difference made its
--- whole plan
+-- a command that found a difference isn't moved on, nor cut; one that ends behind its begin without a difference made
+-- its whole plan
 abbrev pub MakesPlanAt : Opening → List Logged → Event → Type 0
 MakesPlanAt o before (event.Moved number count) = (beside o number before).difference ≡ None
 MakesPlanAt o before (event.Cut number puts why told) = (beside o number before).difference ≡ None
@@ -96,5 +91,5 @@ MakesPlans o journal = Each (λ before logged. MakesPlanAt o before logged.event
 
 -- replies and blocks are those of the cells
 pub record IsByCells (o : Opening) (journal : List Logged) : Type 0 where
-  pub replies : Each (λ before logged. RepliesByCells o before logged.event logged.reply) journal
+  pub replies : Each (λ before logged. AtEnd (RepliesByCells o before logged.reply) logged.event) journal
   pub blocks : (replay o journal).blocks ≡ (beside o 0 journal).blocks

@@ -6,14 +6,12 @@ use Rattle.ct_sense.specs.declared.code.TheConstants.{MISCOMPARE_DURING_VERIFY}
 use Rattle.ct_plan.specs.declared.operation.BlockOp.{BlockOp}
 use Rattle.ct_plan.specs.declared.operation.BlockOp.TheVariants as operations
 use Rattle.ct_book.specs.declared.work.Command.{Command}
-use Rattle.ct_book.specs.declared.event.Event.{Event}
-use Rattle.ct_book.specs.declared.event.Event.TheVariants as event
 use Rattle.ct_book.specs.declared.event.Logged.{Logged}
 use Rattle.ct_exec.specs.Controls.{ControlState}
 use Rattle.ct_exec.specs.Executions.{good, check_condition, plan_in}
 use Rattle.ct_machine.specs.declared.act.Opening.{Opening}
 use Rattle.ct_machine.specs.Serial.{serial_disk}
-use Rattle.ct_machine.specs.Laws.Journals.{Each, has, is_begin, IsCommandOf}
+use Rattle.ct_machine.specs.Laws.Journals.{Each, has, is_begin, IsCommandOf, AtEnd}
 
 abbrev pub is_compare : BlockOp → Bool
 is_compare (operations.Get lba) = false
@@ -29,21 +27,13 @@ IsGoodOrDiffers control plan replied =
     ⊎ ((offset : ℕ) × (list_any is_compare plan ≡ true)
     × (replied ≡ Some (check_condition control MISCOMPARE_DURING_VERIFY (Some offset))))
 
-abbrev pub EndsGoodOrDiffersAt : Opening → List Logged → Event → Option Reply → Type 0
-EndsGoodOrDiffersAt o before (event.Ended number) replied =
+-- of a command that made block operations and ended
+abbrev pub EndsGoodOrDiffersAt : Opening → List Logged → Option Reply → ℕ → Type 0
+EndsGoodOrDiffersAt o before replied number =
     (command : Command) → IsCommandOf before number command → has (is_begin number) before ≡ true →
     IsGoodOrDiffers (serial_disk o before).control (plan_in o.blocks command) replied
-EndsGoodOrDiffersAt o before (event.Came number node line) replied = Unit {0}
-EndsGoodOrDiffersAt o before (event.Enter number) replied = Unit {0}
-EndsGoodOrDiffersAt o before (event.Turned number) replied = Unit {0}
-EndsGoodOrDiffersAt o before (event.Begun number) replied = Unit {0}
-EndsGoodOrDiffersAt o before (event.Granted number) replied = Unit {0}
-EndsGoodOrDiffersAt o before (event.Moved number count) replied = Unit {0}
-EndsGoodOrDiffersAt o before (event.Cut number puts why told) replied = Unit {0}
-EndsGoodOrDiffersAt o before (event.Asked number) replied = Unit {0}
-EndsGoodOrDiffersAt o before (event.Closed number outcome) replied = Unit {0}
-EndsGoodOrDiffersAt o before (event.Deliver node kind number) replied = Unit {0}
 
 -- each command that made block operations and ended is answered so
 abbrev pub EndsGoodOrDiffers : Opening → List Logged → Type 0
-EndsGoodOrDiffers o journal = Each (λ before logged. EndsGoodOrDiffersAt o before logged.event logged.reply) journal
+EndsGoodOrDiffers o journal =
+    Each (λ before logged. AtEnd (EndsGoodOrDiffersAt o before logged.reply) logged.event) journal

@@ -1,5 +1,6 @@
 -- Whom the cuts of a function tell, and how functions are answered (SAM-5, clause 7).
-use Rattle.std.specs.Prelude.{◌≡◌, ℕ, ◌-◌, ◌≤◌, ◌<◌, List, [], ◌∷◌, length, Bool, true, false, not, ◌&&◌, if◌then◌else◌, Option, None, Some, fold}
+use Rattle.std.specs.Prelude.{◌≡◌, ℕ, ◌≤◌, ◌<◌, List, [], ◌∷◌, Bool, true, false, not, ◌&&◌, if◌then◌else◌}
+use Rattle.std.specs.Prelude.{Option, None, Some, IfSome, fold}
 use Rattle.std.specs.List.{list_any}
 use Rattle.ct_word.specs.declared.limit.TheConstants.{MOST_FUNCTIONS}
 use Rattle.ct_word.specs.Nexuses.{is_same_nexus}
@@ -17,7 +18,7 @@ use Rattle.ct_machine.specs.declared.act.Opening.{Opening}
 use Rattle.ct_machine.specs.Entrances.{Member, Standing}
 use Rattle.ct_machine.specs.Serial.{serial_disk}
 use Rattle.ct_machine.specs.Laws.Standings.{Standings, standings_of}
-use Rattle.ct_machine.specs.Laws.Journals.{Each, has, is_entry, is_asked, started_by, AtStart, IsCommandOf, IsFunctionOf}
+use Rattle.ct_machine.specs.Laws.Journals.{Each, has, is_entry, is_asked, AtStart, IsCommandOf, IsFunctionOf}
 
 -- the events of a journal before the first that passes a test
 abbrev pub until : (Event → Bool) → List Logged → List Logged
@@ -61,7 +62,8 @@ IsOutcomeOf standing true ask outcome =
 abbrev pub IsAnsweredAt : Standings → List Logged → Event → Type 0
 IsAnsweredAt standings before (event.Asked number) = (standings before).functions < MOST_FUNCTIONS
 IsAnsweredAt standings before (event.Closed number outcome) =
-    (ask : Ask) → IsFunctionOf before number ask → IsOutcomeOf (standings before) (has (is_asked number) before) ask outcome
+    (ask : Ask) → IsFunctionOf before number ask →
+    IsOutcomeOf (standings before) (has (is_asked number) before) ask outcome
 IsAnsweredAt standings before (event.Came number node line) = Unit {0}
 IsAnsweredAt standings before (event.Enter number) = Unit {0}
 IsAnsweredAt standings before (event.Turned number) = Unit {0}
@@ -84,7 +86,7 @@ NoneIsOpen before = (by : ℕ) → has (is_asked by) before ≡ true → has (is
 
 -- a command starts while no function is open
 abbrev pub BeginsAlone : List Logged → Event → Type 0
-BeginsAlone before happened = AtStart (λ number. NoneIsOpen before) before (started_by happened)
+BeginsAlone before happened = AtStart (λ number. NoneIsOpen before) before happened
 
 abbrev pub WaitsForFunctions : List Logged → Type 0
 WaitsForFunctions journal = Each (λ before logged. BeginsAlone before logged.event) journal
@@ -100,17 +102,8 @@ last_closed journal = fold (λ (last : Option ℕ) (logged : Logged). closed_by 
 -- a function that closes right behind another has the higher number: of those that close in one act the lower number
 -- goes first
 abbrev pub ClosesInOrder : List Logged → Event → Type 0
-ClosesInOrder before (event.Closed number outcome) = (lower : ℕ) → last_closed before ≡ Some lower → lower < number
-ClosesInOrder before (event.Came number node line) = Unit {0}
-ClosesInOrder before (event.Enter number) = Unit {0}
-ClosesInOrder before (event.Turned number) = Unit {0}
-ClosesInOrder before (event.Begun number) = Unit {0}
-ClosesInOrder before (event.Granted number) = Unit {0}
-ClosesInOrder before (event.Moved number count) = Unit {0}
-ClosesInOrder before (event.Ended number) = Unit {0}
-ClosesInOrder before (event.Cut number puts why told) = Unit {0}
-ClosesInOrder before (event.Asked number) = Unit {0}
-ClosesInOrder before (event.Deliver node kind number) = Unit {0}
+ClosesInOrder before happened =
+    IfSome (closed_by happened) (λ number. (lower : ℕ) → last_closed before ≡ Some lower → lower < number)
 
 abbrev pub ClosesByNumber : List Logged → Type 0
 ClosesByNumber journal = Each (λ before logged. ClosesInOrder before logged.event) journal

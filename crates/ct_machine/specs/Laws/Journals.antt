@@ -1,5 +1,6 @@
 -- What is read from a journal: its events, and the works behind their numbers.
-use Rattle.std.specs.Prelude.{◌≡◌, ℕ, ◌+◌, ◌-◌, List, [], ◌∷◌, ◌++◌, Bool, false, ◌&&◌, ◌||◌, ◌==◌, if◌then◌else◌, Option, None, Some}
+use Rattle.std.specs.Prelude.{◌≡◌, ℕ, ◌+◌, List, [], ◌∷◌, ◌++◌, Bool, false, ◌&&◌, ◌||◌, ◌==◌, if◌then◌else◌}
+use Rattle.std.specs.Prelude.{Option, None, Some, IfSome}
 use Rattle.std.specs.List.{list_any}
 use Rattle.ct_tmf.specs.declared.function.Ask.{Ask}
 use Rattle.ct_book.specs.declared.work.Command.{Command}
@@ -40,14 +41,7 @@ abbrev pub started_by : Event → Option ℕ
 started_by (event.Begun number) = Some number
 started_by (event.Granted number) = Some number
 started_by (event.Ended number) = Some number
-started_by (event.Came number node line) = None
-started_by (event.Enter number) = None
-started_by (event.Turned number) = None
-started_by (event.Moved number count) = None
-started_by (event.Cut number puts why told) = None
-started_by (event.Asked number) = None
-started_by (event.Closed number outcome) = None
-started_by (event.Deliver node kind number) = None
+started_by _ = None
 
 abbrev pub is_number : ℕ → Option ℕ → Bool
 is_number wanted (Some number) = number == wanted
@@ -57,9 +51,17 @@ abbrev pub is_start : ℕ → Event → Bool
 is_start wanted event = is_number wanted (started_by event)
 
 -- P holds of a command where it starts: at the first of its `begun`, `granted` and `ended`
-abbrev pub AtStart : (ℕ → Type 0) → List Logged → Option ℕ → Type 0
-AtStart P before (Some number) = has (is_start number) before ≡ false → P number
-AtStart P before None = Unit {0}
+abbrev pub AtStart : (ℕ → Type 0) → List Logged → Event → Type 0
+AtStart P before happened = IfSome (started_by happened) (λ number. has (is_start number) before ≡ false → P number)
+
+-- the command that ends by an event
+abbrev pub ended_by : Event → Option ℕ
+ended_by (event.Ended number) = Some number
+ended_by _ = None
+
+-- P holds of a command where it ends
+abbrev pub AtEnd : (ℕ → Type 0) → Event → Type 0
+AtEnd P happened = IfSome (ended_by happened) P
 
 abbrev pub is_asked : ℕ → Event → Bool
 is_asked wanted (event.Asked number) = number == wanted

@@ -1,4 +1,4 @@
-use Rattle.ct_law.proofs.Writes.{acts_write}
+use Rattle.ct_law.proofs.Acts.Writes.{acts_write}
 use Rattle.ct_law.proofs.liveness.acts_write.Goals as goal
 
 pub returns : goal.returns

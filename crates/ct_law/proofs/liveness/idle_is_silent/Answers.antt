@@ -1,4 +1,4 @@
-use Rattle.ct_law.proofs.Busy.{idle_is_silent}
+use Rattle.ct_law.proofs.Acts.Busy.{idle_is_silent}
 use Rattle.ct_law.proofs.liveness.idle_is_silent.Goals as goal
 
 pub returns : goal.returns

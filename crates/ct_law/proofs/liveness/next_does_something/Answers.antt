@@ -1,4 +1,4 @@
-use Rattle.ct_law.proofs.Busy.{next_is_busy}
+use Rattle.ct_law.proofs.Acts.Busy.{next_is_busy}
 use Rattle.ct_law.proofs.liveness.next_does_something.Goals as goal
 
 pub returns : goal.returns

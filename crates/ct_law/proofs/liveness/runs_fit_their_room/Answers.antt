@@ -1,4 +1,4 @@
-use Rattle.ct_law.proofs.Fits.{fits_room}
+use Rattle.ct_law.proofs.Acts.Fits.{fits_room}
 use Rattle.ct_law.proofs.liveness.runs_fit_their_room.Goals as goal
 
 pub returns : goal.returns

@@ -1,4 +1,4 @@
-use Rattle.ct_law.proofs.Live.{never_stops}
+use Rattle.ct_law.proofs.Acts.Live.{never_stops}
 use Rattle.ct_law.proofs.liveness.runs_never_stop.Goals as goal
 
 pub returns : goal.returns

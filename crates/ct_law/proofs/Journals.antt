@@ -1,0 +1,3 @@
+-- What a journal says.
+pub mod Journal
+pub mod Growing
