@@ -11,7 +11,7 @@ loop-x-preserved c =
     let before = c.loop-x.invariant in
     elim c.if-is_some.branch [
       | then-is_some w ↦
-          rw (w.visible-is, one_shl c.loop-x.x 16 c.loop-x-test.true)
+          rw (w.visible-is, one_shl c.loop-x.x 16 (omega (arith, c.loop-x-test.true)))
           (seen c.args.self.now c.args.n c.loop-x.x c.loop-x.visible before (found ∙ w.if-is_some.true))
       | else-is_some w ↦
           rw w.visible-is (unseen c.args.self.now c.args.n c.loop-x.x c.loop-x.visible before (found ∙ w.if-is_some.false))
