@@ -3,3 +3,4 @@ pub mod Allocation
 pub mod Inquiries
 pub mod Capacities
 pub mod Luns
+pub mod Direct

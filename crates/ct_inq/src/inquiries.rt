@@ -49,7 +49,7 @@ pub fn inquiry(page: InquiryPage, allocation: u16, lun: LunNo, into: &mut Reserv
 }
 
 #[tactic(auto, unfolding(crate::specs::Inquiries::standard_inquiry))]
-fn standard() -> [u8; 36]
+pub fn standard() -> [u8; 36]
     ensures { result ≡ standard_inquiry }
 {
     let mut bytes = [0; 36];

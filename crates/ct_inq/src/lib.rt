@@ -8,12 +8,14 @@ mod inquiries;
 mod laws;
 mod luns;
 mod texts;
+mod unmapped;
 mod vpd;
 
 pub use capacity::{capacity_10, capacity_16};
 pub use inquiries::inquiry;
 pub use laws::lengths;
 pub use luns::report_luns;
+pub use unmapped::direct;
 
 #[cfg(test)]
 mod tests;

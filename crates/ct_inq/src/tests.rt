@@ -2,6 +2,7 @@
 
 use crate::*;
 use ct_cdb::{InquiryPage, LunSelection};
+use ct_sense::{Status, code};
 use ct_word::{LunNo, NoMemory, Reserve};
 
 /// The pages of logical unit 15.
@@ -81,6 +82,46 @@ fn lists_what_is_seen(rt: HostRuntime) -> Result<(), NoMemory> {
         let mut into = Reserve::open(rt.alloc(), 136)?;
         report_luns(select, allocation, visible, &mut into);
         assert_eq!(rt; into.as_slice(), bytes, "at {select:?} {visible:x}");
+    }
+    Ok(())
+}
+
+/// Commands for a number under which nothing is seen, and the data with which they are answered.
+fn directly() -> [(&'static [u8], Option<&'static [u8]>); 8] {
+    [
+        (b"\0\0\0\0\0\0", None),
+        (b"\x12\0\0\0\x04\0", Some(b"\x7f\0\x06\x12")),
+        (b"\x12\x01\x80\0\xff\0", None),
+        (
+            b"\xa0\0\0\0\0\0\0\0\x01\0\0\0",
+            Some(b"\0\0\0\x08\0\0\0\0\0\x0f\0\0\0\0\0\0"),
+        ),
+        (
+            b"\x03\0\0\0\xff\0",
+            Some(b"\x70\0\x05\0\0\0\0\x0a\0\0\0\0\x25\0\0\0\0\0"),
+        ),
+        (b"\x03\x01\0\0\xff\0", Some(b"\x72\x05\x25\0\0\0\0\0")),
+        (b"\x28\0", None),
+        (b"", None),
+    ]
+}
+
+#[test]
+fn answers_where_nothing_is_seen(rt: HostRuntime) -> Result<(), NoMemory> {
+    for (cdb, bytes) in directly() {
+        let reply = direct(rt.alloc(), 0x8000, cdb)?;
+        let (status, sense) = match bytes {
+            Some(_) => (Status::Good, None),
+            None => (
+                Status::CheckCondition,
+                Some(code::LOGICAL_UNIT_NOT_SUPPORTED.sense(None)),
+            ),
+        };
+        assert_eq!(rt;
+            (reply.status, reply.sense, reply.descriptor),
+            (status, sense, false)
+        );
+        assert_eq!(rt; reply.body.as_slice(), bytes.unwrap_or(b""), "at {cdb:?}");
     }
     Ok(())
 }

@@ -1,28 +1,29 @@
 -- The block operations that lines ask for, with one line more.
-use Rattle.std.proofs.Common.{◌≡◌, ℕ, ◌+◌, Bool, true, false, ◌||◌, List, [], ◌∷◌, ◌++◌, Option, Some, None, refl, sym, ap, ◌∙◌, arith}
+use Rattle.std.proofs.Common.{◌≡◌, ℕ, ◌+◌, Bool, true, false, ◌||◌, List, [], ◌∷◌, ◌++◌, Option, Some, None, refl, ap, ◌∙◌, arith}
 use Rattle.std.specs.Prelude.{◌≤◌, sum_by, count_by, nat_lt}
 use Rattle.std.specs.List.{list_any}
 use Rattle.std.specs.Option.{option_or, unwrap_or}
 use Rattle.std.proofs.lemmas.Bool.{or_parts, ltb-false}
-use Rattle.ct_word.specs.declared.limit.TheConstants.{MOST_COMMANDS, MOST_DATA_OUT_TOGETHER, MOST_OPERATIONS}
+use Rattle.ct_word.specs.declared.limit.TheConstants.{MOST_COMMANDS, MOST_TASKS, MOST_DATA_OUT_TOGETHER, MOST_OPERATIONS}
 use Rattle.std.proofs.lemmas.List.Sums.{sum_by-append, sum_by-cons}
 use Rattle.ct_script.specs.declared.script.Line.{Line}
 use Rattle.ct_script.specs.declared.script.Word.{Word}
-use Rattle.ct_script.specs.declared.script.Word.TheVariants.{Lun, Port, Map, Cmd, Step, Drain, Sync}
-use Rattle.ct_script.specs.Rules.{acts, word_acts, word_blocks, declared_blocks, word_line_asked, line_asked, disk_blocks, asked_by, is_misnamed, is_over, is_command, data_bytes}
+use Rattle.ct_script.specs.declared.script.Word.TheVariants.{Lun, Port, Map, Cmd, Task, Step, Drain, Sync}
+use Rattle.ct_script.specs.Rules.{acts, word_acts, word_blocks, declared_blocks, word_line_asked, line_asked, disk_blocks, asked_by, is_misnamed, is_over, is_command, is_task, data_bytes}
 use Rattle.ct_script.proofs.Names.{none_acted}
 
 -- lines that pass no limit ask for few block operations
 pub few_asked : (lines : List Line) → is_over lines ≡ false → asked_by lines ≤ MOST_OPERATIONS
 few_asked lines within =
     ltb-false MOST_OPERATIONS (asked_by lines)
-    (last (nat_lt MOST_COMMANDS (count_by is_command lines))
+    (last (nat_lt MOST_COMMANDS (count_by is_command lines)) (nat_lt MOST_TASKS (count_by is_task lines))
     (nat_lt MOST_DATA_OUT_TOGETHER (sum_by data_bytes lines)) (nat_lt MOST_OPERATIONS (asked_by lines)) within)
   where
-    last : (a b c : Bool) → (a || b || c) ≡ false → c ≡ false
-    last true b c e = absurd (cc)
-    last false true c e = absurd (cc)
-    last false false c e = e
+    last : (a b c d : Bool) → (a || b || c || d) ≡ false → d ≡ false
+    last true b c d e = absurd (cc)
+    last false true c d e = absurd (cc)
+    last false false true d e = absurd (cc)
+    last false false false d e = e
 
 pub none_asked_by : 0 ≡ asked_by []
 unfolding asked_by
@@ -50,6 +51,7 @@ acting_declares (Lun lun blocks sizes) e = absurd (cc)
 acting_declares (Port port node) e = refl
 acting_declares (Map n x lun) e = refl
 acting_declares (Cmd n x tag attr cdb out) e = refl
+acting_declares (Task n x function) e = refl
 acting_declares (Step lun number blocks) e = refl
 acting_declares (Drain lun) e = refl
 acting_declares Sync e = refl
@@ -65,6 +67,7 @@ quiet_asks blocks (Lun lun n sizes) e = refl
 quiet_asks blocks (Port port node) e = refl
 quiet_asks blocks (Map n x lun) e = refl
 quiet_asks blocks (Cmd n x tag attr cdb out) e = absurd (cc)
+quiet_asks blocks (Task n x function) e = absurd (cc)
 quiet_asks blocks (Step lun number n) e = refl
 quiet_asks blocks (Drain lun) e = refl
 quiet_asks blocks Sync e = refl

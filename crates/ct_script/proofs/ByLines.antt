@@ -1,7 +1,6 @@
 -- A script is read line by line.
-use Rattle.std.proofs.Common.{◌≡◌, ◌≢◌, ℕ, ◌+◌, ◌≤◌, Bool, true, false, List, [], ◌∷◌, ◌++◌, ◌==◌, length, Option, Some, None, Result, Ok, Err, refl, sym, ap, ◌∙◌, subst, arith, append_assoc, length-append}
-use Rattle.std.specs.Prelude.{◌↔◌, if◌then◌else◌, count_by}
-use Rattle.std.specs.List.{slice_split}
+use Rattle.std.proofs.Common.{◌≡◌, ◌≢◌, ℕ, ◌+◌, Bool, true, false, List, [], ◌∷◌, ◌++◌, ◌==◌, length, Option, Some, None, Result, Ok, Err, refl, sym, ap, ◌∙◌, subst, arith, append_assoc, length-append}
+use Rattle.std.specs.Prelude.{if◌then◌else◌}
 use Rattle.std.proofs.lemmas.Bool.Decides.{nat_tests}
 use Rattle.std.proofs.lemmas.List.Splits.{length-slice_split}
 use Rattle.ct_script.specs.declared.script.Line.{Line}
@@ -12,7 +11,7 @@ use Rattle.ct_script.specs.declared.script.ScriptFault.{ScriptFault}
 use Rattle.ct_script.specs.Words.{words_of}
 use Rattle.ct_script.specs.Forms.{word_of}
 use Rattle.ct_script.specs.Rules.{is_misnamed, passes_limit}
-use Rattle.ct_script.specs.Scripts.{line_at, judged, line_by_word, line_of, fault_at, then_lines, lines_from, script_of}
+use Rattle.ct_script.specs.Scripts.{line_at, line_by_word, line_of, fault_at, then_lines, lines_from, script_of}
 use Rattle.ct_script.specs.Lines.{Says, AreSaid, none_said, one_more, texts_of, AreLines, HasFault, IsInFault, IsFirstFault, IsReadByLines}
 use Rattle.ct_script.proofs.Saying.{line_says, says_line}
 

@@ -1,5 +1,5 @@
 -- A line of which DATA is kept in part is judged as the whole one.
-use Rattle.std.proofs.Common.{◌≡◌, ℕ, ◌+◌, ◌≤◌, ◌<◌, Bool, true, false, ◌||◌, List, [], ◌∷◌, ◌++◌, length, take}
+use Rattle.std.proofs.Common.{◌≡◌, ◌≢◌, ℕ, ◌+◌, ◌≤◌, ◌<◌, Bool, true, false, ◌||◌, List, [], ◌∷◌, ◌++◌, length, take}
 use Rattle.std.proofs.Common.{Option, Some, None, Result, Ok, Err, refl, sym, ap, ◌∙◌, arith}
 use Rattle.std.specs.Prelude.{option_map, nat_lt, if◌then◌else◌}
 use Rattle.std.proofs.lemmas.List.{take_all, length-take-le}
@@ -7,9 +7,9 @@ use Rattle.std.proofs.lemmas.Bool.Decides.{nat_tests}
 use Rattle.ct_word.specs.declared.limit.TheConstants.{MOST_LINES, MOST_DATA_OUT}
 use Rattle.ct_script.specs.declared.script.Line.{Line}
 use Rattle.ct_script.specs.declared.script.Word.{Word}
-use Rattle.ct_script.specs.declared.script.Word.TheVariants.{Lun, Port, Map, Cmd, Step, Drain, Sync}
+use Rattle.ct_script.specs.declared.script.Word.TheVariants.{Lun, Port, Map, Cmd, Task, Step, Drain, Sync}
 use Rattle.ct_script.specs.declared.script.What.{What}
-use Rattle.ct_script.specs.declared.script.What.TheVariants.{Name, Limit}
+use Rattle.ct_script.specs.declared.script.What.TheVariants.{Form, Name, Limit}
 use Rattle.ct_script.specs.Rules.{is_misnamed, is_over, passes_limit}
 use Rattle.ct_script.specs.Words.{words_of}
 use Rattle.ct_script.specs.Forms.{word_of}
@@ -53,6 +53,7 @@ judged_kept earlier number (Cmd n x tag attr cdb out) = by_length (nat_lt MOST_D
         let also : nat_lt MOST_DATA_OUT (length part) ≡ true = grind (arith, nat_tests) in
         over part also (is_misnamed earlier (with_data part)) (nat_lt MOST_LINES number)
         ∙ sym (over out e (is_misnamed earlier (with_data out)) (nat_lt MOST_LINES number))
+judged_kept earlier number (Task n x function) = refl
 judged_kept earlier number (Step lun blocks count) = refl
 judged_kept earlier number (Drain lun) = refl
 judged_kept earlier number Sync = refl
@@ -66,6 +67,16 @@ line_by_kept earlier number text word h = go (word_of (words_of text)) h
     go (Some whole) e = let same : word ≡ kept whole = cc in sym (judged_kept earlier number whole) ∙ ap (judged earlier number) (sym same)
 
 -- what a reader finds of the part that it keeps is the answer
+
+pub formless_line : (earlier : List Line) (number : ℕ) (text : List ℕ) (found : Option Word)
+    → found ≡ option_map kept (word_of (words_of text)) → ((word : Word) → found ≢ Some word)
+    → line_of earlier number text ≡ Err Form
+unfolding line_of
+formless_line earlier number text found h n = go (word_of (words_of text)) h
+  where
+    go : (read : Option Word) → found ≡ option_map kept read → line_by_word earlier number read ≡ Err Form
+    go None e = refl
+    go (Some word) e = absurd (n (kept word) e)
 
 pub misnamed_line : (earlier : List Line) (number : ℕ) (text : List ℕ) (word : Word) → Some word ≡ option_map kept (word_of (words_of text)) → is_misnamed earlier word ≡ true → line_of earlier number text ≡ Err Name
 misnamed_line earlier number text word h n =

@@ -7,7 +7,7 @@ use Rattle.std.proofs.lemmas.List.Folds.{list_any-append, list_all-append}
 use Rattle.std.proofs.lemmas.Bool.Decides.{nat_tests}
 use Rattle.ct_script.specs.declared.script.Line.{Line}
 use Rattle.ct_script.specs.declared.script.Word.{Word}
-use Rattle.ct_script.specs.declared.script.Word.TheVariants.{Lun, Port, Map, Cmd, Step, Drain, Sync}
+use Rattle.ct_script.specs.declared.script.Word.TheVariants.{Lun, Port, Map, Cmd, Task, Step, Drain, Sync}
 use Rattle.ct_script.specs.Rules.{acts, word_acts, declares_lun, declares_port, maps, word_declares_lun, word_declares_port, word_maps, is_misnamed_by, is_misnamed, SetUpFirst}
 
 -- no line that acts passes a test of lines that set up
@@ -59,6 +59,7 @@ lun_set lun line = go line.word
     go (Port port node) e = refl
     go (Map n x l) e = refl
     go (Cmd n x tag attr cdb out) e = refl
+    go (Task n y function) e = refl
     go (Step l number blocks) e = refl
     go (Drain l) e = refl
     go Sync e = refl
@@ -71,6 +72,7 @@ port_set port line = go line.word
     go (Port p node) e = absurd (cc)
     go (Map n x l) e = refl
     go (Cmd n x tag attr cdb out) e = refl
+    go (Task n y function) e = refl
     go (Step l number blocks) e = refl
     go (Drain l) e = refl
     go Sync e = refl
@@ -83,6 +85,7 @@ map_set nexus x line = go line.word
     go (Port port node) e = refl
     go (Map n y l) e = absurd (cc)
     go (Cmd n y tag attr cdb out) e = refl
+    go (Task n y function) e = refl
     go (Step l number blocks) e = refl
     go (Drain l) e = refl
     go Sync e = refl
@@ -115,6 +118,9 @@ named_first lines settings word h = go word
     go (Cmd n x tag attr cdb out) =
         ap (λ t. not t || not (list_any (maps n x) (take settings lines))) (ports n.port)
         ∙ ap (λ t. not (list_any (declares_port n.port) lines) || not t) (mapped n x)
+    go (Task n x function) =
+        ap (λ t. not t || not (list_any (maps n x) (take settings lines))) (ports n.port)
+        ∙ ap (λ t. not (list_any (declares_port n.port) lines) || not t) (mapped n x)
     go (Step lun number blocks) = ap not (luns lun)
     go (Drain lun) = ap not (luns lun)
     go Sync = refl
@@ -141,6 +147,7 @@ none_acted lines (Port port node) h e = or_left_false (list_any acts lines) _ h
 none_acted lines (Map n x lun) h e =
     or_left_false (list_any acts lines) _ (or_left_false (list_any acts lines || not (list_any (declares_port n.port) lines)) _ (or_left_false (list_any acts lines || not (list_any (declares_port n.port) lines) || not (list_any (declares_lun lun) lines)) _ h))
 none_acted lines (Cmd n x tag attr cdb out) h e = absurd (cc)
+none_acted lines (Task n x function) h e = absurd (cc)
 none_acted lines (Step lun number blocks) h e = absurd (cc)
 none_acted lines (Drain lun) h e = absurd (cc)
 none_acted lines Sync h e = absurd (cc)

@@ -1,27 +1,27 @@
 -- Lines said by texts, one by one.
-use Rattle.std.proofs.Common.{◌≡◌, ℕ, ◌+◌, Bool, true, false, List, [], ◌∷◌, ◌++◌, length, Option, Some, None, Result, Ok, Err, refl, sym, ap, ◌∙◌, subst, arith, length-append}
+use Rattle.std.proofs.Common.{◌≡◌, ℕ, ◌+◌, Bool, true, false, List, [], ◌∷◌, ◌++◌, length, Option, Some, None, Ok, Err, refl, sym, ap, ◌∙◌, subst, arith}
 use Rattle.std.specs.Prelude.{if◌then◌else◌}
 use Rattle.std.proofs.lemmas.List.Elements.{All-nil, All-cons, All-append}
 use Rattle.ct_script.specs.declared.script.Line.{Line}
 use Rattle.ct_script.specs.declared.script.Word.{Word}
-use Rattle.ct_script.specs.declared.script.What.{What}
-use Rattle.ct_script.specs.declared.script.What.TheVariants.{Form, Name, Limit}
+use Rattle.ct_script.specs.declared.script.What.TheVariants.{Name, Limit}
 use Rattle.ct_script.specs.Words.{words_of}
 use Rattle.ct_script.specs.Forms.{word_of}
-use Rattle.ct_script.specs.Rules.{is_misnamed, is_over, passes_limit, asked_by, IsInRange, AreInRange}
+use Rattle.ct_script.specs.Rules.{is_misnamed, is_over, passes_limit, asked_by, IsInRange}
 use Rattle.ct_script.proofs.Asking.{none_asked_by}
-use Rattle.ct_script.specs.Scripts.{line_at, judged, line_by_word, line_of}
-use Rattle.ct_script.specs.Lines.{Says, AreSaid, none_said, one_more, IsFaultless, IsWithin, AddUp}
+use Rattle.ct_script.specs.Scripts.{line_at, line_by_word, line_of}
+use Rattle.ct_script.specs.Lines.{Says, none_said, one_more, IsFaultless, IsWithin, AddUp}
 
 pub none_within : IsWithin []
 unfolding asked_by
 none_within = record { faultless = ([], none_said); limits = refl; in_range = All-nil (λ (line : Line). IsInRange line.word) }
 
-pub none_add_up : (lines : List Line) → lines ≡ [] → AddUp lines 0 None 0 0 0
-none_add_up lines e = subst (λ ls. AddUp ls 0 None 0 0 0) (sym e) (record {
+pub none_add_up : (lines : List Line) → lines ≡ [] → AddUp lines 0 None 0 0 0 0
+none_add_up lines e = subst (λ ls. AddUp ls 0 None 0 0 0 0) (sym e) (record {
   in_order = record { few = omega arith; quiet = refl; acting = refl };
   blocks_are = refl;
   commands_are = refl;
+  tasks_are = refl;
   bytes_are = refl;
   operations_are = none_asked_by;
   within = none_within;

@@ -4,9 +4,13 @@ use Rattle.ct_word.specs.declared.limit.TheConstants.{MOST_BLOCKS, MOST_DEPTH, M
 use Rattle.ct_word.specs.declared.names.Node.TheVariants.{A}
 use Rattle.ct_cdb.specs.declared.op.Attr2.{Attr2}
 use Rattle.ct_cdb.specs.declared.op.Attr2.TheVariants.{Simple, Ordered, Head}
+use Rattle.ct_tmf.specs.declared.function.Function.{Function}
+use Rattle.ct_tmf.specs.declared.function.Function.TheVariants.{AbortTask, AbortTaskSet, ClearTaskSet, LunReset}
+use Rattle.ct_tmf.specs.declared.function.Function.TheVariants.{NexusReset, QueryTask, QueryTaskSet, ClearAca}
+use Rattle.ct_word.specs.declared.names.Tag.{Tag}
 use Rattle.ct_script.specs.declared.script.Sizes.{Sizes}
 use Rattle.ct_script.specs.declared.script.Word.{Word}
-use Rattle.ct_script.specs.declared.script.Word.TheVariants.{Lun, Port, Map, Cmd, Step, Drain, Sync}
+use Rattle.ct_script.specs.declared.script.Word.TheVariants.{Lun, Port, Map, Cmd, Task, Step, Drain, Sync}
 use Rattle.ct_script.specs.ByteText.{bytes_of_text, at_most}
 use Rattle.ct_script.specs.Words.{number_in}
 
@@ -79,6 +83,46 @@ cmd_of (init ∷ port ∷ number ∷ tag ∷ attribute ∷ cdb ∷ out) =
     else None
 cmd_of _ = None
 
+-- the functions on a whole task set or nexus, by name (SAM-5, clause 7)
+abbrev pub function_of : List ℕ → Option Function
+function_of name =
+    if bytes_eq name (codes "abort-task-set") then Some AbortTaskSet
+    else if bytes_eq name (codes "clear-task-set") then Some ClearTaskSet
+    else if bytes_eq name (codes "lun-reset") then Some LunReset
+    else if bytes_eq name (codes "nexus-reset") then Some NexusReset
+    else if bytes_eq name (codes "query-task-set") then Some QueryTaskSet
+    else if bytes_eq name (codes "clear-aca") then Some ClearAca
+    else None
+
+-- the functions on the command with a tag, by name
+abbrev pub tagged_of : List ℕ → Tag → Option Function
+tagged_of name tag =
+    if bytes_eq name (codes "abort-task") then Some (AbortTask tag)
+    else if bytes_eq name (codes "query-task") then Some (QueryTask tag)
+    else None
+
+abbrev pub tagged_by : List ℕ → Option ℕ → Option Function
+tagged_by name None = None
+tagged_by name (Some tag) = tagged_of name (record { 0 = tag })
+
+-- `NAME` and `NAME TAG`
+abbrev pub asked_of : List (List ℕ) → Option Function
+asked_of (name ∷ []) = function_of name
+asked_of (name ∷ tag ∷ []) = tagged_by name (number_in 0 (2 ^ 32 - 1) tag)
+asked_of _ = None
+
+abbrev pub task_by : Option ℕ → Option Function → Option Word
+task_by (Some init) (Some function) = Some (Task (record { port = 0; init = init }) 0 function)
+task_by _ _ = None
+
+-- `task I 0 0 NAME` and `task I 0 0 NAME TAG`
+abbrev pub task_of : List (List ℕ) → Option Word
+task_of (init ∷ port ∷ number ∷ function) =
+    if bytes_eq port (codes "0") && bytes_eq number (codes "0")
+    then task_by (number_in 0 15 init) (asked_of function)
+    else None
+task_of _ = None
+
 -- `step 0 NO N`
 abbrev pub step_by : Option ℕ → Option ℕ → Option Word
 step_by (Some number) (Some blocks) = Some (Step (record { 0 = 0 }) number blocks)
@@ -107,6 +151,7 @@ word_of (name ∷ words) =
     else if bytes_eq name (codes "port") then port_of words
     else if bytes_eq name (codes "map") then map_of words
     else if bytes_eq name (codes "cmd") then cmd_of words
+    else if bytes_eq name (codes "task") then task_of words
     else if bytes_eq name (codes "step") then step_of words
     else if bytes_eq name (codes "drain") then drain_of words
     else if bytes_eq name (codes "sync") then sync_of words

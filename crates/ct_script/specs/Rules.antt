@@ -2,7 +2,8 @@
 use Rattle.std.specs.Prelude.{◌≡◌, ◌≤◌, ℕ, take, drop, List, [], ◌∷◌, ◌++◌, ◌==◌, nat_lt, Bool, true, false, ◌&&◌, ◌||◌, not, length, sum_by, count_by, Option, None, Some, Result, Ok, Err}
 use Rattle.std.specs.List.{list_any, list_all, All}
 use Rattle.std.specs.Option.{option_or, unwrap_or}
-use Rattle.ct_word.specs.declared.limit.TheConstants.{MOST_BLOCKS, MOST_DEPTH, MOST_POOL, MOST_LINES, MOST_COMMANDS}
+use Rattle.ct_word.specs.declared.limit.TheConstants.{MOST_BLOCKS, MOST_DEPTH, MOST_POOL}
+use Rattle.ct_word.specs.declared.limit.TheConstants.{MOST_LINES, MOST_COMMANDS, MOST_TASKS}
 use Rattle.ct_word.specs.declared.limit.TheConstants.{MOST_DATA_OUT, MOST_DATA_OUT_TOGETHER, MOST_OPERATIONS}
 use Rattle.ct_word.specs.Nexuses.{IsNexus, is_same_nexus}
 use Rattle.ct_word.specs.declared.names.LunNo.{LunNo}
@@ -14,7 +15,7 @@ use Rattle.ct_cdb.specs.Profiles.{asked_of}
 use Rattle.ct_script.specs.declared.script.Line.{Line}
 use Rattle.ct_script.specs.declared.script.Sizes.{Sizes}
 use Rattle.ct_script.specs.declared.script.Word.{Word}
-use Rattle.ct_script.specs.declared.script.Word.TheVariants.{Lun, Port, Map, Cmd, Step, Drain, Sync}
+use Rattle.ct_script.specs.declared.script.Word.TheVariants.{Lun, Port, Map, Cmd, Task, Step, Drain, Sync}
 
 abbrev pub word_declares_lun : LunNo → Word → Bool
 word_declares_lun lun (Lun number blocks sizes) = number.0 == lun.0
@@ -44,12 +45,20 @@ word_is_command _ = false
 abbrev pub is_command : Line → Bool
 is_command line = word_is_command line.word
 
+abbrev pub word_is_task : Word → Bool
+word_is_task (Task n x function) = true
+word_is_task _ = false
+
+abbrev pub is_task : Line → Bool
+is_task line = word_is_task line.word
+
 -- a line that does something, and sets nothing up
 abbrev pub word_acts : Word → Bool
 word_acts (Lun lun blocks sizes) = false
 word_acts (Port port node) = false
 word_acts (Map n x lun) = false
 word_acts (Cmd n x tag attr cdb out) = true
+word_acts (Task n x function) = true
 word_acts (Step lun number blocks) = true
 word_acts (Drain lun) = true
 word_acts Sync = true
@@ -64,6 +73,8 @@ is_misnamed_by acted earlier (Port port node) = acted || list_any (declares_port
 is_misnamed_by acted earlier (Map n x lun) =
     acted || not (list_any (declares_port n.port) earlier) || not (list_any (declares_lun lun) earlier) || list_any (maps n x) earlier
 is_misnamed_by acted earlier (Cmd n x tag attr cdb out) = not (list_any (declares_port n.port) earlier) || not (list_any (maps n x) earlier)
+is_misnamed_by acted earlier (Task n x function) =
+    not (list_any (declares_port n.port) earlier) || not (list_any (maps n x) earlier)
 is_misnamed_by acted earlier (Step lun number blocks) = not (list_any (declares_lun lun) earlier)
 is_misnamed_by acted earlier (Drain lun) = not (list_any (declares_lun lun) earlier)
 is_misnamed_by acted earlier Sync = false
@@ -112,10 +123,11 @@ disk_blocks lines = unwrap_or (declared_blocks lines) 0
 unfoldable pub asked_by : List Line → ℕ
 asked_by lines = sum_by (line_asked (disk_blocks lines)) lines
 
--- lines pass a limit: on commands, on DATA of all of them, or on block operations
+-- lines pass a limit: on commands, on functions, on DATA of all of them, or on block operations
 abbrev pub is_over : List Line → Bool
 is_over lines =
     nat_lt MOST_COMMANDS (count_by is_command lines)
+    || nat_lt MOST_TASKS (count_by is_task lines)
     || nat_lt MOST_DATA_OUT_TOGETHER (sum_by data_bytes lines)
     || nat_lt MOST_OPERATIONS (asked_by lines)
 
@@ -130,10 +142,12 @@ pub record IsSized (sizes : Sizes) : Type 0 where
   pub some_blocks : 1 ≤ sizes.pool
   pub few_blocks : sizes.pool ≤ MOST_POOL
 
--- numbers are in the ranges of their places: the blocks of a unit and its sizes, a command's nexus, the block operations of a step
+-- numbers are in the ranges of their places: the blocks of a unit and its sizes, the nexus of a command or function, the
+-- block operations of a step
 abbrev pub IsInRange : Word → Type 0
 IsInRange (Lun lun blocks sizes) = (1 ≤ blocks) × (blocks ≤ MOST_BLOCKS) × IsSized sizes
 IsInRange (Cmd n x tag attr cdb out) = IsNexus n
+IsInRange (Task n x function) = IsNexus n
 IsInRange (Step lun number blocks) = 1 ≤ blocks
 IsInRange _ = Unit {0}
 

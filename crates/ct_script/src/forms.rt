@@ -7,12 +7,14 @@ ghost use Rattle.ct_script.specs.ByteText.{bytes_of_text};
 ghost use Rattle.ct_script.specs.Words.{number_in};
 ghost use Rattle.ct_script.specs.Forms.{word_of, lun_of, sizes_of, attribute_of, port_of, map_of, step_of, drain_of, sync_of};
 ghost use Rattle.ct_script.specs.Forms.{cmd_of, command_of, cdb_bytes_of, data_of};
+ghost use Rattle.ct_script.specs.Forms.{task_of, asked_of, function_of, tagged_of};
 
 use crate::byte_text::read_bytes;
 use crate::numbers::number_in;
 use crate::parts::Parts;
 use crate::script::{Sizes, Word};
 use ct_cdb::{Attr2, CdbBytes};
+use ct_tmf::Function;
 use ct_word::limit::{
     DEPTH, MOST_BLOCKS, MOST_CDB, MOST_DATA_OUT, MOST_DEPTH, MOST_POOL, MOST_STEP, POOL,
 };
@@ -39,6 +41,8 @@ pub fn read_word(alloc: Global, mut words: Parts<'_>) -> Result<Option<Word>, No
         Ok(map_form(words))
     } else if spells(name, "cmd") {
         cmd_form(alloc, words)
+    } else if spells(name, "task") {
+        Ok(task_form(words))
     } else if spells(name, "step") {
         Ok(step_form(words))
     } else if spells(name, "drain") {
@@ -246,6 +250,72 @@ fn read_kept(alloc: Global, text: &[u8]) -> Result<Option<Bytes>, NoMemory>
     ensures { IfOk result (λ found. found ≡ option_map (take (MOST_DATA_OUT + 1)) (bytes_of_text text.now)) }
 {
     read_bytes(alloc, text, KEPT_DATA)
+}
+
+// `task I 0 0 NAME`, and a last word TAG
+fn task_form(mut words: Parts<'_>) -> Option<Word>
+    ensures word { result ≡ option_map kept (task_of words.entry) }
+    ensures in_range { IfSome result IsInRange }
+{
+    let init = words.next()?;
+    let port = words.next()?;
+    let number = words.next()?;
+    if !spells(port, "0") || !spells(number, "0") {
+        return None;
+    }
+    let init = number_in(0, 15, init)? as u8;
+    let function = asked_form(words)?;
+    Some(Word::Task {
+        n: Nexus { port: 0, init },
+        x: 0,
+        function,
+    })
+}
+
+// `NAME`, or `NAME TAG`
+fn asked_form(mut words: Parts<'_>) -> Option<Function>
+    ensures { result ≡ asked_of words.entry }
+{
+    let name = words.next()?;
+    let Some(tag) = words.next() else {
+        return function_in(name);
+    };
+    if !words.is_empty() {
+        return None;
+    }
+    tagged_in(name, Tag(number_in(0, u32::MAX, tag)?))
+}
+
+fn function_in(name: &[u8]) -> Option<Function>
+    ensures { result ≡ function_of name.now }
+{
+    if spells(name, "abort-task-set") {
+        Some(Function::AbortTaskSet)
+    } else if spells(name, "clear-task-set") {
+        Some(Function::ClearTaskSet)
+    } else if spells(name, "lun-reset") {
+        Some(Function::LunReset)
+    } else if spells(name, "nexus-reset") {
+        Some(Function::NexusReset)
+    } else if spells(name, "query-task-set") {
+        Some(Function::QueryTaskSet)
+    } else if spells(name, "clear-aca") {
+        Some(Function::ClearAca)
+    } else {
+        None
+    }
+}
+
+fn tagged_in(name: &[u8], tag: Tag) -> Option<Function>
+    ensures { result ≡ tagged_of name.now tag }
+{
+    if spells(name, "abort-task") {
+        Some(Function::AbortTask(tag))
+    } else if spells(name, "query-task") {
+        Some(Function::QueryTask(tag))
+    } else {
+        None
+    }
 }
 
 // `step 0 NO N`

@@ -8,11 +8,11 @@ ghost use Rattle.ct_script.specs.Scripts.{line_of, script_of, fault_at, Gives, G
 
 use crate::forms::read_word;
 use crate::parts::Parts;
-use crate::rules::{acts, blocks_of, data_bytes, is_command, is_misnamed, line_asked};
+use crate::rules::{acts, blocks_of, data_bytes, is_command, is_misnamed, is_task, line_asked};
 use crate::script::{Line, ParseError, Script, ScriptFault, What, Word};
 use ct_word::NoMemory;
 use ct_word::limit::{
-    MOST_COMMANDS, MOST_DATA_OUT, MOST_DATA_OUT_TOGETHER, MOST_LINES, MOST_OPERATIONS,
+    MOST_COMMANDS, MOST_DATA_OUT, MOST_DATA_OUT_TOGETHER, MOST_LINES, MOST_OPERATIONS, MOST_TASKS,
 };
 use std::alloc::Global;
 use std::marker::Model;
@@ -84,6 +84,7 @@ struct Draft {
     // Of the disk, once a line declares it.
     blocks: Option<u32>,
     commands: u64,
+    tasks: u64,
     bytes: u64,
     operations: u64,
 }
@@ -98,7 +99,7 @@ impl Model for Draft {
 
     ghost view = { λ d. d.lines.items };
 
-    ghost invariant = { λ d. AddUp d.lines.items d.settings d.blocks d.commands d.bytes d.operations };
+    ghost invariant = { λ d. AddUp d.lines.items d.settings d.blocks d.commands d.tasks d.bytes d.operations };
 }
 
 impl Draft {
@@ -110,6 +111,7 @@ impl Draft {
             settings: 0,
             blocks: None,
             commands: 0,
+            tasks: 0,
             bytes: 0,
             operations: 0,
         }
@@ -130,6 +132,7 @@ impl Draft {
         line.no > MOST_LINES
             || data_bytes(line) > MOST_DATA_OUT
             || self.commands + u64::from(is_command(line)) > MOST_COMMANDS
+            || self.tasks + u64::from(is_task(line)) > MOST_TASKS
             || self.bytes + data_bytes(line) > MOST_DATA_OUT_TOGETHER
             || self.asks_too_much(line)
     }
@@ -162,6 +165,7 @@ impl Draft {
             self.lines.len() + 1
         };
         let commands = self.commands + u64::from(is_command(&line));
+        let tasks = self.tasks + u64::from(is_task(&line));
         let bytes = self.bytes + data_bytes(&line);
         let operations = self.operations + self.asked(&line);
         let blocks = self.blocks.or(blocks_of(&line));
@@ -169,6 +173,7 @@ impl Draft {
         self.settings = settings;
         self.blocks = blocks;
         self.commands = commands;
+        self.tasks = tasks;
         self.bytes = bytes;
         self.operations = operations;
         Ok(())

@@ -2,7 +2,7 @@
 
 ghost use Rattle.std.specs.Prelude.{◌≡◌, ◌<◌, ◌^◌};
 ghost use Rattle.std.specs.List.{list_any};
-ghost use Rattle.ct_script.specs.Rules.{declares_lun, declares_port, maps, is_command, acts, is_misnamed_by};
+ghost use Rattle.ct_script.specs.Rules.{declares_lun, declares_port, maps, is_command, is_task, acts, is_misnamed_by};
 ghost use Rattle.ct_script.specs.Rules.{data_bytes, word_blocks, line_asked};
 
 use crate::script::{Line, Word};
@@ -23,7 +23,9 @@ pub fn is_misnamed(acted: bool, earlier: &[Line], word: &Word) -> bool
                 || !any_lun(earlier, *lun)
                 || any_map(earlier, *n, *x)
         }
-        Word::Cmd { n, x, .. } => !any_port(earlier, n.port) || !any_map(earlier, *n, *x),
+        Word::Cmd { n, x, .. } | Word::Task { n, x, .. } => {
+            !any_port(earlier, n.port) || !any_map(earlier, *n, *x)
+        }
         Word::Step { lun, .. } | Word::Drain { lun } => !any_lun(earlier, *lun),
         Word::Sync => false,
     }
@@ -84,13 +86,24 @@ pub fn is_command(line: &Line) -> bool
     }
 }
 
+/// A task management function is asked with the line.
+pub fn is_task(line: &Line) -> bool
+    ensures { result ≡ is_task line.now }
+{
+    match &line.word {
+        Word::Task { .. } => true,
+        _ => false,
+    }
+}
+
 /// A line does something, and sets nothing up.
 pub fn acts(line: &Line) -> bool
     ensures { result ≡ acts line.now }
 {
     match &line.word {
         Word::Lun { .. } | Word::Port { .. } | Word::Map { .. } => false,
-        Word::Cmd { .. } | Word::Step { .. } | Word::Drain { .. } | Word::Sync => true,
+        Word::Cmd { .. } | Word::Task { .. } | Word::Step { .. } | Word::Drain { .. } => true,
+        Word::Sync => true,
     }
 }
 

@@ -4,6 +4,7 @@ ghost use Rattle.std.specs.Prelude.{◌≡◌};
 ghost use Rattle.ct_script.specs.Lines.{IsWithin};
 
 use ct_cdb::{Attr2, CdbBytes};
+use ct_tmf::Function;
 use ct_word::{Bytes, LunNo, Nexus, NoMemory, Node, Tag};
 use std::marker::Model;
 
@@ -42,6 +43,12 @@ pub enum Word {
         attr: Attr2,
         cdb: CdbBytes,
         out: Bytes,
+    },
+    /// A task management function is asked.
+    Task {
+        n: Nexus,
+        x: u8,
+        function: Function,
     },
     /// A command moves on, by at most so many block operations.
     Step {

@@ -48,6 +48,9 @@ pub const MOST_LINES: u32 = 65_536;
 /// The most commands of a script, each a `cmd` line.
 pub const MOST_COMMANDS: u64 = 16_384;
 
+/// The most task management functions of a script, each a `task` line.
+pub const MOST_TASKS: u64 = 1_024;
+
 /// The most bytes of a CDB in a script.
 pub const MOST_CDB: usize = 32;
 

@@ -1,7 +1,7 @@
-use Rattle.std.proofs.Common.{◌≡◌, ◌≤◌, ◌+◌, ◌++◌, ◌∷◌, [], nat_lt, ap, ◌∙◌, sym, arith}
+use Rattle.std.proofs.Common.{◌≡◌, ◌≤◌, ◌+◌, ◌++◌, ◌∷◌, [], ap, ◌∙◌, sym, arith}
 use Rattle.std.proofs.lemmas.Bool.Decides.{nat_tests}
 use Rattle.ct_word.specs.declared.limit.TheConstants.{MOST_OPERATIONS}
-use Rattle.ct_script.specs.Rules.{disk_blocks, asked_by, line_asked}
+use Rattle.ct_script.specs.Rules.{asked_by}
 use Rattle.ct_script.proofs.Asking.{asked_more, few_asked}
 use Rattle.ct_script.proofs.lines.Draft.asks_too_much.Goals as goal
 

@@ -1,4 +1,4 @@
-use Rattle.std.proofs.Common.{◌≡◌, ◌+◌, ◌++◌, ◌∷◌, [], List, length, ◌≤◌, false, sym, ap, ◌∙◌, subst, arith}
+use Rattle.std.proofs.Common.{◌≡◌, ◌+◌, ◌++◌, ◌∷◌, [], List, length, false, sym, ap, ◌∙◌, subst, arith}
 use Rattle.std.proofs.lemmas.Grind.{common_steps}
 use Rattle.ct_script.specs.declared.script.Line.{Line}
 use Rattle.ct_script.specs.Rules.{is_misnamed, is_over, declared_blocks, asked_by, SetUpFirst}
@@ -33,6 +33,7 @@ invariant_of-self-2 c =
       ]);
       blocks_are = subst (λ (ls : List Line). c.or-blocks.result ≡ declared_blocks ls) (sym items) blocks;
       commands_are = grind (arith, common_steps);
+      tasks_are = grind (arith, common_steps);
       bytes_are = grind (arith, common_steps);
       operations_are = subst (λ (ls : List Line). c.self.inside.operations + c.asked.result ≡ asked_by ls) (sym items) asked;
       within = subst IsWithin (sym items)
