@@ -1,3 +1,4 @@
 pub mod Pages
 pub mod Descriptors
 pub mod Sharing
+mod InOrder

@@ -16,7 +16,7 @@ apart_by false a b is none =
     let shared : max a.lba b.lba < min (a.lba + a.count) (b.lba + b.count) = grind (arith, nat_tests) in
     absurd (none (max a.lba b.lba) (omega arith, omega arith) (omega arith, omega arith))
 
-both : (a b : Bool) → (a && b) ≡ true → (a ≡ true) × (b ≡ true)
+pub both : (a b : Bool) → (a && b) ≡ true → (a ≡ true) × (b ≡ true)
 both true true e = (refl, refl)
 both true false e = cc
 both false b e = cc

@@ -41,6 +41,16 @@ abbrev pub are_apart : List UnmapDescriptor → Bool
 are_apart [] = true
 are_apart (descriptor ∷ others) = list_all (is_apart descriptor) others && are_apart others
 
+-- one ends at or before the beginning of the other
+abbrev pub ends_before : UnmapDescriptor → UnmapDescriptor → Bool
+ends_before a b = nat_le (a.lba + a.count) b.lba
+
+-- each ends at or before the beginning of the next
+abbrev pub are_in_order : List UnmapDescriptor → Bool
+are_in_order [] = true
+are_in_order (first ∷ []) = true
+are_in_order (first ∷ second ∷ others) = ends_before first second && are_in_order (second ∷ others)
+
 -- a range outside the disk is told before two descriptors that share a block
 abbrev pub judged : ℕ → List UnmapDescriptor → Result (List UnmapDescriptor) ListFault
 judged blocks list =

@@ -3,7 +3,7 @@
 ghost use Rattle.std.specs.Prelude.{◌≡◌, ◌<◌, ◌≤◌, ◌+◌, ◌*◌, [], ◌∷◌, ◌++◌, length};
 ghost use Rattle.std.specs.List.{list_all};
 ghost use Rattle.ct_param.specs.UnmapLists.{descriptor_at, descriptors, whole_descriptors, is_inside, is_apart};
-ghost use Rattle.ct_param.specs.UnmapLists.{are_apart, unmap_list_of};
+ghost use Rattle.ct_param.specs.UnmapLists.{are_apart, ends_before, are_in_order, unmap_list_of};
 
 use crate::fault::ListFault;
 use ct_word::limit::MOST_RANGES;
@@ -117,12 +117,38 @@ fn is_inside(descriptor: UnmapDescriptor, blocks: u32) -> bool
     }
 }
 
+// Pairs are compared only where the descriptors aren't in order.
+#[tactic(auto, using(crate::proofs::InOrder::in_order_apart))]
 fn are_apart(list: &[UnmapDescriptor]) -> bool
+    ensures { result ≡ are_apart list.now }
+{
+    are_in_order(list) || is_each_apart(list)
+}
+
+fn are_in_order(list: &[UnmapDescriptor]) -> bool
+    ensures { result ≡ are_in_order list.now }
+{
+    match list {
+        [] => true,
+        [first, others @ ..] => match others {
+            [] => true,
+            [second, ..] => ends_before(*first, *second) && are_in_order(others),
+        },
+    }
+}
+
+fn ends_before(a: UnmapDescriptor, b: UnmapDescriptor) -> bool
+    ensures { result ≡ ends_before a b }
+{
+    a.lba <= b.lba && u64::from(a.count) <= b.lba - a.lba
+}
+
+fn is_each_apart(list: &[UnmapDescriptor]) -> bool
     ensures { result ≡ are_apart list.now }
 {
     match list {
         [] => true,
-        [first, others @ ..] => is_apart_from_all(*first, others) && are_apart(others),
+        [first, others @ ..] => is_apart_from_all(*first, others) && is_each_apart(others),
     }
 }
 
