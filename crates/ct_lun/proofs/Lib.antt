@@ -14,3 +14,4 @@ pub mod Steps
 pub mod Enters
 pub mod Arrivals
 pub mod Opens
+pub mod Searches
