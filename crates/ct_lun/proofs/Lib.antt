@@ -15,3 +15,4 @@ pub mod Enters
 pub mod Arrivals
 pub mod Functions
 pub mod Opens
+pub mod Searches

@@ -135,7 +135,7 @@ impl<B: Backend> Lun<B> {
         ensures named { IfSome result (λ at. (slot_at self.now.slots at).no ≡ no) }
         ensures none { IfNone result (IsNone (slot_of no self.now.slots)) }
     {
-        let at = place(self.slots.as_slice(), no);
+        let at = place(&self.slots, no);
         if at == self.slots.len() {
             None
         } else {

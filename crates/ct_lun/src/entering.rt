@@ -105,7 +105,7 @@ impl<B: Backend> Lun<B> {
         ensures cause { IfErr result (λ refusal. cause_by self.old (record { nexus = nexus; tag = tag }) need ≡ Some (refused_reply refusal)) }
         ensures unchanged { OnErr result (self.new ≡ self.old) }
     {
-        if overlaps(self.slots.as_slice(), nexus, tag) {
+        if overlaps(&self.slots, nexus, tag) {
             return Err(check_condition(&self.control, code::OVERLAPPED_COMMANDS_ATTEMPTED, None));
         }
         if self.queue.is_full() {

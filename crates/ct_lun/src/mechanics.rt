@@ -23,6 +23,7 @@ use ct_exec::{Refusal, check};
 use ct_matrix::{Footprint, Held, Waits, leave_uncounted};
 use ct_medium::Backend;
 use ct_plan::{Piece, Plan, Task, advance};
+use ct_shelf::Shelf;
 use ct_word::limit::MOST_BLOCKS;
 use ct_word::{CmdNo, Reserve};
 
@@ -31,7 +32,7 @@ impl<B: Backend> Lun<B> {
         requires { at < length self.now.slots }
         ensures { result.now ≡ slot_at self.now.slots at }
     {
-        &self.slots.as_slice()[at]
+        self.slots.item(at)
     }
 
     /// Whether a command that another nexus aborts ends with TASK ABORTED.
@@ -124,14 +125,14 @@ impl<B: Backend> Lun<B> {
 }
 
 // Puts a slot where its command enters the queue.
-fn place_in(slots: &mut Reserve<Slot>, attr: Attr2, slot: Slot)
+fn place_in(slots: &mut Shelf<Slot>, attr: Attr2, slot: Slot)
     requires { 0 < slots.old.room }
     ensures placed { slots.new.items ≡ placed_slot attr slot slots.old.items }
     ensures counted { length slots.new.items + slots.new.room ≡ length slots.old.items + slots.old.room }
 {
     match attr {
         Attr2::Head => {
-            let at = first_waiting(slots.as_slice());
+            let at = first_waiting(slots);
             slots.insert(at, slot);
         }
         Attr2::Simple | Attr2::Ordered => slots.push(slot),

@@ -125,7 +125,7 @@ impl<B: Backend> Lun<B> {
     fn is_sought(&self, ask: &Ask) -> bool
         ensures { result ≡ list_any (λ slot. seeks ask.now slot.nexus slot.tag) self.now.slots }
     {
-        seeks_any(self.slots.as_slice(), ask)
+        seeks_any(&self.slots, ask)
     }
 
     // FUNCTION SUCCEEDED for a query that finds a command, else FUNCTION COMPLETE.

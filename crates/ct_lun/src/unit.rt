@@ -7,7 +7,8 @@ use ct_matrix::Waits;
 use ct_medium::Backend;
 use ct_pool::Pool;
 use ct_queue::Queue;
-use ct_word::{LunNo, NoMemory, Reserve};
+use ct_shelf::Shelf;
+use ct_word::{LunNo, NoMemory};
 use std::alloc::Global;
 use std::marker::Model;
 
@@ -17,7 +18,7 @@ pub struct Lun<B: Backend> {
     pub(crate) control: Control,
     pub(crate) queue: Queue,
     // In the order of the queue.
-    pub(crate) slots: Reserve<Slot>,
+    pub(crate) slots: Shelf<Slot>,
     pub(crate) pool: Pool,
     pub(crate) medium: B,
 }
@@ -56,7 +57,7 @@ impl<B: Backend> Lun<B> {
         let control = Control::open(alloc, lun)?;
         let mut queue = Queue::open(alloc, depth)?;
         queue.set_order(control.is_unrestricted());
-        let slots = Reserve::open(alloc, depth as usize)?;
+        let slots = Shelf::open(alloc, depth as usize)?;
         let pool = Pool::open(alloc, pool, depth)?;
         Ok(Lun {
             control,

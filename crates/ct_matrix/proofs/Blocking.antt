@@ -8,11 +8,11 @@ use Rattle.ct_matrix.specs.declared.held.HeldCommand.{HeldCommand}
 use Rattle.ct_matrix.specs.Conflicts.{has_to_wait}
 use Rattle.ct_matrix.specs.Queues.{TaskSet, Stands, command_of, blocker_of, first_to_wait_for, first_waited_for, number_of}
 
-when-true : {A : Type 0} (test : Bool) (x y : A) → test ≡ true → (if test then x else y) ≡ x
+pub when-true : {A : Type 0} (test : Bool) (x y : A) → test ≡ true → (if test then x else y) ≡ x
 when-true true x y h = refl
 when-true false x y h = absurd (false≢true h)
 
-when-false : {A : Type 0} (test : Bool) (x y : A) → test ≡ false → (if test then x else y) ≡ y
+pub when-false : {A : Type 0} (test : Bool) (x y : A) → test ≡ false → (if test then x else y) ≡ y
 when-false true x y h = absurd (false≢true (sym h))
 when-false false x y h = refl
 

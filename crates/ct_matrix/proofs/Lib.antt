@@ -1,4 +1,4 @@
-mod Blocking
+pub mod Blocking
 pub mod Places
 pub mod Rising
 mod Shared

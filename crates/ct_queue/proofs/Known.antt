@@ -5,48 +5,49 @@ use Rattle.std.specs.Option.{option_map_or}
 use Rattle.std.proofs.lemmas.Bool.{cases_Bool, false≢true}
 use Rattle.std.proofs.lemmas.List.{map-append, length-map}
 use Rattle.std.proofs.lemmas.Option.{slice_get-map}
+use Rattle.ct_matrix.proofs.Blocking.{when-true, when-false}
 use Rattle.ct_matrix.proofs.Places.{insert_first}
 use Rattle.std.proofs.lemmas.Bool.Decides.{nat_tests}
 use Rattle.ct_matrix.specs.declared.held.Held.{Held}
 use Rattle.ct_matrix.specs.declared.held.HeldCommand.{HeldCommand}
 use Rattle.ct_matrix.specs.Conflicts.{has_to_wait, skips, conflicts, is_head, is_ordered}
 use Rattle.ct_matrix.specs.Queues.{TaskSet, blocker_of, is_ready, number_of, command_of, without, with_begun, waits_yet, before_first, first_to_wait_for}
-use Rattle.ct_queue.specs.declared.standing.Standing.{Standing}
-use Rattle.ct_queue.specs.declared.standing.Change.{Change}
-use Rattle.ct_queue.specs.declared.standing.Change.TheVariants as change
+use Rattle.ct_queue.specs.declared.known_command.KnownCommand.{KnownCommand}
+use Rattle.ct_queue.specs.declared.known_command.Change.{Change}
+use Rattle.ct_queue.specs.declared.known_command.Change.TheVariants as change
 use Rattle.ct_queue.proofs.Commands.{set-place, place_item, remove-place, other_than_absent, turned, before-begun, before-waits, absent_behind, absent_begun, place-here, place-other}
 use Rattle.ct_queue.specs.Sound.{IsSingle, place_of, waiting_from}
-use Rattle.ct_queue.specs.Standings.{standing_in, touches, is_touched, IsRight, waits_in, is_ready_in, has_begun_in, has_number, number_in}
+use Rattle.ct_queue.specs.KnownCommands.{known_in, touches, is_touched, IsRight, waits_in, is_ready_in, has_begun_in, has_number, number_in}
 
 -- the first so many are those among all, the others as they were
-abbrev pub known_up_to : ℕ → Bool → List HeldCommand → List HeldCommand → List Standing → List Standing
+abbrev pub known_up_to : ℕ → Bool → List HeldCommand → List HeldCommand → List KnownCommand → List KnownCommand
 known_up_to zero unrestricted all commands kept = kept
 known_up_to (suc n) unrestricted all [] kept = kept
 known_up_to (suc n) unrestricted all (command ∷ commands) [] = []
-known_up_to (suc n) unrestricted all (command ∷ commands) (first ∷ others) = standing_in unrestricted all command ∷ known_up_to n unrestricted all commands others
+known_up_to (suc n) unrestricted all (command ∷ commands) (first ∷ others) = known_in unrestricted all command ∷ known_up_to n unrestricted all commands others
 
-pub known_all : (what : Change) (u : Bool) (all commands : List HeldCommand) (kept : List Standing) → IsRight what u all commands kept → known_up_to (length commands) u all commands kept ≡ map (standing_in u all) commands
+pub known_all : (what : Change) (u : Bool) (all commands : List HeldCommand) (kept : List KnownCommand) → IsRight what u all commands kept → known_up_to (length commands) u all commands kept ≡ map (known_in u all) commands
 known_all what u all [] [] right = refl
 known_all what u all [] (k ∷ ks) right = absurd right
 known_all what u all (c ∷ cs) [] right = absurd right
-known_all what u all (c ∷ cs) (k ∷ ks) right = ap (λ (rest : List Standing). standing_in u all c ∷ rest) (known_all what u all cs ks right.1)
+known_all what u all (c ∷ cs) (k ∷ ks) right = ap (λ (rest : List KnownCommand). known_in u all c ∷ rest) (known_all what u all cs ks right.1)
 
-pub known-length : (n : ℕ) (u : Bool) (all commands : List HeldCommand) (kept : List Standing) → length (known_up_to n u all commands kept) ≡ length kept
+pub known-length : (n : ℕ) (u : Bool) (all commands : List HeldCommand) (kept : List KnownCommand) → length (known_up_to n u all commands kept) ≡ length kept
 known-length zero u all cs ks = refl
 known-length (suc n) u all [] ks = refl
 known-length (suc n) u all (c ∷ cs) [] = refl
 known-length (suc n) u all (c ∷ cs) (k ∷ ks) = ap suc (known-length n u all cs ks)
 
-pub right-length : (what : Change) (u : Bool) (all commands : List HeldCommand) (kept : List Standing) → IsRight what u all commands kept → length kept ≡ length commands
+pub right-length : (what : Change) (u : Bool) (all commands : List HeldCommand) (kept : List KnownCommand) → IsRight what u all commands kept → length kept ≡ length commands
 right-length what u all [] [] right = refl
 right-length what u all [] (k ∷ ks) right = absurd right
 right-length what u all (c ∷ cs) [] right = absurd right
 right-length what u all (c ∷ cs) (k ∷ ks) right = ap suc (right-length what u all cs ks right.1)
 
 -- a turn that finds anew, and one that keeps
-pub known_set : (n : ℕ) (u : Bool) (all commands : List HeldCommand) (kept : List Standing) (command : HeldCommand) → length kept ≡ length commands → slice_get commands n ≡ Some command
-    → slice_set (known_up_to n u all commands kept) n (standing_in u all command) ≡ known_up_to (suc n) u all commands kept
-known_set zero u all (c ∷ cs) (k ∷ ks) command same at = ap (λ (it : HeldCommand). standing_in u all it ∷ ks) (sym (some_same at))
+pub known_set : (n : ℕ) (u : Bool) (all commands : List HeldCommand) (kept : List KnownCommand) (command : HeldCommand) → length kept ≡ length commands → slice_get commands n ≡ Some command
+    → slice_set (known_up_to n u all commands kept) n (known_in u all command) ≡ known_up_to (suc n) u all commands kept
+known_set zero u all (c ∷ cs) (k ∷ ks) command same at = ap (λ (it : HeldCommand). known_in u all it ∷ ks) (sym (some_same at))
   where
     some_same : Some c ≡ Some command → c ≡ command
     some_same h = cc
@@ -60,9 +61,9 @@ known_set (suc n) u all [] kept command same at = absurd (none_some at)
     none_some h = cc
 known_set zero u all (c ∷ cs) [] command same at = absurd (omega (arith, same))
 known_set (suc n) u all (c ∷ cs) [] command same at = absurd (omega (arith, same))
-known_set (suc n) u all (c ∷ cs) (k ∷ ks) command same at = ap (λ (rest : List Standing). standing_in u all c ∷ rest) (known_set n u all cs ks command (omega (arith, same)) at)
+known_set (suc n) u all (c ∷ cs) (k ∷ ks) command same at = ap (λ (rest : List KnownCommand). known_in u all c ∷ rest) (known_set n u all cs ks command (omega (arith, same)) at)
 
-pub known_kept : (n : ℕ) (what : Change) (u : Bool) (all commands : List HeldCommand) (kept : List Standing) (command : HeldCommand) (it : Standing) → IsRight what u all commands kept
+pub known_kept : (n : ℕ) (what : Change) (u : Bool) (all commands : List HeldCommand) (kept : List KnownCommand) (command : HeldCommand) (it : KnownCommand) → IsRight what u all commands kept
     → slice_get commands n ≡ Some command → slice_get kept n ≡ Some it → is_touched what u command it ≡ false → known_up_to n u all commands kept ≡ known_up_to (suc n) u all commands kept
 known_kept n what u all [] [] command it right at has untouched = absurd (none_some at)
   where
@@ -73,10 +74,10 @@ known_kept n what u all (c ∷ cs) [] command it right at has untouched = absurd
 known_kept zero what u all (c ∷ cs) (k ∷ ks) command it right at has untouched =
     let command_is : c ≡ command = cc in
     let it_is : k ≡ it = cc in
-    ap (λ (first : Standing). first ∷ ks) (right.0 (rw (command_is, it_is) untouched))
-known_kept (suc n) what u all (c ∷ cs) (k ∷ ks) command it right at has untouched = ap (λ (rest : List Standing). standing_in u all c ∷ rest) (known_kept n what u all cs ks command it right.1 at has untouched)
+    ap (λ (first : KnownCommand). first ∷ ks) (right.0 (rw (command_is, it_is) untouched))
+known_kept (suc n) what u all (c ∷ cs) (k ∷ ks) command it right at has untouched = ap (λ (rest : List KnownCommand). known_in u all c ∷ rest) (known_kept n what u all cs ks command it right.1 at has untouched)
 
-pub known_at : (n : ℕ) (u : Bool) (all commands : List HeldCommand) (kept : List Standing) → slice_get (known_up_to n u all commands kept) n ≡ slice_get kept n
+pub known_at : (n : ℕ) (u : Bool) (all commands : List HeldCommand) (kept : List KnownCommand) → slice_get (known_up_to n u all commands kept) n ≡ slice_get kept n
 known_at zero u all cs ks = refl
 known_at (suc n) u all [] ks = refl
 known_at (suc n) u all (c ∷ cs) [] = refl
@@ -85,17 +86,17 @@ known_at (suc n) u all (c ∷ cs) (k ∷ ks) = known_at n u all cs ks
 -- a command that a change doesn't touch waits for the same as before
 abbrev pub IsStill : Change → Bool → List HeldCommand → Bool → List HeldCommand → HeldCommand → Type 0
 IsStill what before all_before u all c =
-    c.held.begun ≡ false → touches what u c (standing_in before all_before c) ≡ false → first_to_wait_for before true c all_before ≡ first_to_wait_for u true c all
+    c.held.begun ≡ false → touches what u c (known_in before all_before c) ≡ false → first_to_wait_for before true c all_before ≡ first_to_wait_for u true c all
 
-abbrev standing_of : ℕ → Bool → Option ℕ → Standing
-standing_of number begun blocker = record { no = number; begun = begun; blocker = blocker }
+abbrev known_of : ℕ → Bool → Option ℕ → KnownCommand
+known_of number begun blocker = record { no = number; begun = begun; blocker = blocker }
 
 -- what is kept of a command that has begun, and of one that waits
-kept_begun : (number : ℕ) (begun : Bool) (blocker : Option ℕ) → begun ≡ true → standing_of number begun (if begun then None else blocker) ≡ standing_of number true None
+kept_begun : (number : ℕ) (begun : Bool) (blocker : Option ℕ) → begun ≡ true → known_of number begun (if begun then None else blocker) ≡ known_of number true None
 kept_begun number true blocker h = refl
 kept_begun number false blocker h = absurd (false≢true h)
 
-kept_waits : (number : ℕ) (begun : Bool) (blocker : Option ℕ) → begun ≡ false → standing_of number begun (if begun then None else blocker) ≡ standing_of number false blocker
+kept_waits : (number : ℕ) (begun : Bool) (blocker : Option ℕ) → begun ≡ false → known_of number begun (if begun then None else blocker) ≡ known_of number false blocker
 kept_waits number true blocker h = absurd (false≢true (sym h))
 kept_waits number false blocker h = refl
 
@@ -108,13 +109,13 @@ untouched_waits true touched h untouched = absurd (false≢true (sym h))
 untouched_waits false touched h untouched = untouched
 
 stands_still : (what : Change) (before : Bool) (all_before : List HeldCommand) (u : Bool) (all : List HeldCommand) (c : HeldCommand) → IsStill what before all_before u all c
-    → is_touched what u c (standing_in before all_before c) ≡ false → standing_in before all_before c ≡ standing_in u all c
+    → is_touched what u c (known_in before all_before c) ≡ false → known_in before all_before c ≡ known_in u all c
 stands_still what before all_before u all c still untouched =
     elim (cases_Bool c.held.begun) [
       | inl begun ↦ kept_begun c.no c.held.begun (first_to_wait_for before true c all_before) begun ∙ sym (kept_begun c.no c.held.begun (first_to_wait_for u true c all) begun)
       | inr waits ↦
           kept_waits c.no c.held.begun (first_to_wait_for before true c all_before) waits
-          ∙ ap (λ (blocker : Option ℕ). standing_of c.no false blocker) (still waits (untouched_waits c.held.begun (touches what u c (standing_in before all_before c)) waits untouched))
+          ∙ ap (λ (blocker : Option ℕ). known_of c.no false blocker) (still waits (untouched_waits c.held.begun (touches what u c (known_in before all_before c)) waits untouched))
           ∙ sym (kept_waits c.no c.held.begun (first_to_wait_for u true c all) waits)
     ]
 
@@ -123,33 +124,25 @@ abbrev pub AreStill : Change → Bool → List HeldCommand → Bool → List Hel
 AreStill what before all_before u all [] = Unit {0}
 AreStill what before all_before u all (c ∷ cs) = IsStill what before all_before u all c × AreStill what before all_before u all cs
 
-blocker_waits : (u : Bool) (all : List HeldCommand) (c : HeldCommand) → c.held.begun ≡ false → (standing_in u all c).blocker ≡ first_to_wait_for u true c all
-blocker_waits u all c waits = ap (λ (kept : Standing). kept.blocker) (kept_waits c.no c.held.begun (first_to_wait_for u true c all) waits)
+blocker_waits : (u : Bool) (all : List HeldCommand) (c : HeldCommand) → c.held.begun ≡ false → (known_in u all c).blocker ≡ first_to_wait_for u true c all
+blocker_waits u all c waits = ap (λ (kept : KnownCommand). kept.blocker) (kept_waits c.no c.held.begun (first_to_wait_for u true c all) waits)
 
 pub right_all : (what : Change) (before : Bool) (all_before : List HeldCommand) (u : Bool) (all commands : List HeldCommand) → AreStill what before all_before u all commands
-    → IsRight what u all commands (map (standing_in before all_before) commands)
+    → IsRight what u all commands (map (known_in before all_before) commands)
 right_all what before all_before u all [] still = tt
 right_all what before all_before u all (c ∷ cs) still = (stands_still what before all_before u all c still.0, right_all what before all_before u all cs still.1)
 
 -- a step of the search for what a command waits for
-when-true : {A : Type 0} (test : Bool) (x y : A) → test ≡ true → (if test then x else y) ≡ x
-when-true true x y h = refl
-when-true false x y h = absurd (false≢true h)
-
-when-false : {A : Type 0} (test : Bool) (x y : A) → test ≡ false → (if test then x else y) ≡ y
-when-false true x y h = absurd (false≢true (sym h))
-when-false false x y h = refl
-
-at_itself : (u a : Bool) (w c : HeldCommand) (cs : List HeldCommand) → (c.no == w.no) ≡ true → first_to_wait_for u a w (c ∷ cs) ≡ first_to_wait_for u false w cs
+pub at_itself : (u a : Bool) (w c : HeldCommand) (cs : List HeldCommand) → (c.no == w.no) ≡ true → first_to_wait_for u a w (c ∷ cs) ≡ first_to_wait_for u false w cs
 at_itself u a w c cs here = when-true (c.no == w.no) (first_to_wait_for u false w cs) (if has_to_wait u a c.held w.held then Some c.no else first_to_wait_for u a w cs) here
 
 at_other : (u a : Bool) (w c : HeldCommand) (cs : List HeldCommand) → (c.no == w.no) ≡ false → first_to_wait_for u a w (c ∷ cs) ≡ (if has_to_wait u a c.held w.held then Some c.no else first_to_wait_for u a w cs)
 at_other u a w c cs other = when-false (c.no == w.no) (first_to_wait_for u false w cs) (if has_to_wait u a c.held w.held then Some c.no else first_to_wait_for u a w cs) other
 
-at_blocker : (u a : Bool) (w c : HeldCommand) (cs : List HeldCommand) → (c.no == w.no) ≡ false → has_to_wait u a c.held w.held ≡ true → first_to_wait_for u a w (c ∷ cs) ≡ Some c.no
+pub at_blocker : (u a : Bool) (w c : HeldCommand) (cs : List HeldCommand) → (c.no == w.no) ≡ false → has_to_wait u a c.held w.held ≡ true → first_to_wait_for u a w (c ∷ cs) ≡ Some c.no
 at_blocker u a w c cs other waits = at_other u a w c cs other ∙ when-true (has_to_wait u a c.held w.held) (Some c.no) (first_to_wait_for u a w cs) waits
 
-at_free : (u a : Bool) (w c : HeldCommand) (cs : List HeldCommand) → (c.no == w.no) ≡ false → has_to_wait u a c.held w.held ≡ false → first_to_wait_for u a w (c ∷ cs) ≡ first_to_wait_for u a w cs
+pub at_free : (u a : Bool) (w c : HeldCommand) (cs : List HeldCommand) → (c.no == w.no) ≡ false → has_to_wait u a c.held w.held ≡ false → first_to_wait_for u a w (c ∷ cs) ≡ first_to_wait_for u a w cs
 at_free u a w c cs other free = at_other u a w c cs other ∙ when-false (has_to_wait u a c.held w.held) (Some c.no) (first_to_wait_for u a w cs) free
 
 -- two numbers
@@ -267,23 +260,23 @@ found_all (c ∷ cs) = (first_found, found_more c cs cs (found_all cs))
     first_found : IsSome (command_of c.no (c ∷ cs))
     first_found = rw same refl
 
-same_last : (u : Bool) (new : HeldCommand) (all cs : List HeldCommand) → new.held.begun ≡ false → AreFound all cs → map (standing_in u all) cs ≡ map (standing_in u (all ++ new ∷ [])) cs
+same_last : (u : Bool) (new : HeldCommand) (all cs : List HeldCommand) → new.held.begun ≡ false → AreFound all cs → map (known_in u all) cs ≡ map (known_in u (all ++ new ∷ [])) cs
 same_last u new all [] waits found = refl
 same_last u new all (c ∷ cs) waits found =
-    ap (λ (blocker : Option ℕ). standing_of c.no c.held.begun (if c.held.begun then None else blocker) ∷ map (standing_in u all) cs) (entered_last u c new all waits found.0)
-    ∙ ap (λ (rest : List Standing). standing_in u (all ++ new ∷ []) c ∷ rest) (same_last u new all cs waits found.1)
+    ap (λ (blocker : Option ℕ). known_of c.no c.held.begun (if c.held.begun then None else blocker) ∷ map (known_in u all) cs) (entered_last u c new all waits found.0)
+    ∙ ap (λ (rest : List KnownCommand). known_in u (all ++ new ∷ []) c ∷ rest) (same_last u new all cs waits found.1)
 
 pub kept_last : (u : Bool) (new : HeldCommand) (all : List HeldCommand) → new.held.begun ≡ false
-    → map (standing_in u all) all ++ standing_in u (all ++ new ∷ []) new ∷ [] ≡ map (standing_in u (all ++ new ∷ [])) (all ++ new ∷ [])
+    → map (known_in u all) all ++ known_in u (all ++ new ∷ []) new ∷ [] ≡ map (known_in u (all ++ new ∷ [])) (all ++ new ∷ [])
 kept_last u new all waits =
-    ap (λ (rest : List Standing). rest ++ standing_in u (all ++ new ∷ []) new ∷ []) (same_last u new all all waits (found_all all))
-    ∙ sym (map-append (standing_in u (all ++ new ∷ [])) all (new ∷ []))
+    ap (λ (rest : List KnownCommand). rest ++ known_in u (all ++ new ∷ []) new ∷ []) (same_last u new all all waits (found_all all))
+    ∙ sym (map-append (known_in u (all ++ new ∷ [])) all (new ∷ []))
 
 -- a HEAD OF QUEUE command that enters
-kept-begun : (new kept : Standing) (others : List Standing) → kept.begun ≡ true → before_first waits_in new (kept ∷ others) ≡ kept ∷ before_first waits_in new others
+kept-begun : (new kept : KnownCommand) (others : List KnownCommand) → kept.begun ≡ true → before_first waits_in new (kept ∷ others) ≡ kept ∷ before_first waits_in new others
 kept-begun new kept others begun = rw begun refl
 
-kept-waits : (new kept : Standing) (others : List Standing) → kept.begun ≡ false → before_first waits_in new (kept ∷ others) ≡ new ∷ kept ∷ others
+kept-waits : (new kept : KnownCommand) (others : List KnownCommand) → kept.begun ≡ false → before_first waits_in new (kept ∷ others) ≡ new ∷ kept ∷ others
 kept-waits new kept others waits = rw waits refl
 
 entered_head : (u a : Bool) (w new : HeldCommand) (cs : List HeldCommand) → new.held.begun ≡ false → (new.no == w.no) ≡ false → has_to_wait u true new.held w.held ≡ false
@@ -306,27 +299,27 @@ entered_head u a w new (c ∷ cs) waits other free =
 
 -- what touches a command that waits for another, which stands ahead of it or behind it
 abbrev pub TouchesBy : Bool → Bool → Held → Change → Type 0
-TouchesBy u ahead other what = (c : HeldCommand) (kept : Standing) → touches what u c kept ≡ has_to_wait u ahead other c.held
+TouchesBy u ahead other what = (c : HeldCommand) (kept : KnownCommand) → touches what u c kept ≡ has_to_wait u ahead other c.held
 
 still_entered : (u : Bool) (what : Change) (new : HeldCommand) (all cs : List HeldCommand) → TouchesBy u true new.held what → new.held.begun ≡ false → IsNone (command_of new.no cs)
     → AreStill what u all u (before_first waits_yet new all) cs
 still_entered u what new all [] sees waits fresh = tt
 still_entered u what new all (c ∷ cs) sees waits fresh =
     let parts = other_than_absent new.no c cs fresh in
-    (λ yet untouched. entered_head u true c new all waits (turned c.no new.no parts.0) (sym (sees c (standing_in u all c)) ∙ untouched), still_entered u what new all cs sees waits parts.1)
+    (λ yet untouched. entered_head u true c new all waits (turned c.no new.no parts.0) (sym (sees c (known_in u all c)) ∙ untouched), still_entered u what new all cs sees waits parts.1)
 
 right_before : (what : Change) (before : Bool) (all_before : List HeldCommand) (u : Bool) (all : List HeldCommand) (new : HeldCommand) (cs : List HeldCommand) → AreStill what before all_before u all cs
-    → IsRight what u all (before_first waits_yet new cs) (before_first waits_in (standing_in u all new) (map (standing_in before all_before) cs))
+    → IsRight what u all (before_first waits_yet new cs) (before_first waits_in (known_in u all new) (map (known_in before all_before) cs))
 right_before what before all_before u all new [] still = ((λ untouched. refl), tt)
 right_before what before all_before u all new (c ∷ cs) still =
     elim (cases_Bool c.held.begun) [
       | inl begun ↦
-          subst (λ (items : List HeldCommand). IsRight what u all items (before_first waits_in (standing_in u all new) (map (standing_in before all_before) (c ∷ cs)))) (sym (before-begun new c cs begun))
-          (subst (IsRight what u all (c ∷ before_first waits_yet new cs)) (sym (kept-begun (standing_in u all new) (standing_in before all_before c) (map (standing_in before all_before) cs) begun))
+          subst (λ (items : List HeldCommand). IsRight what u all items (before_first waits_in (known_in u all new) (map (known_in before all_before) (c ∷ cs)))) (sym (before-begun new c cs begun))
+          (subst (IsRight what u all (c ∷ before_first waits_yet new cs)) (sym (kept-begun (known_in u all new) (known_in before all_before c) (map (known_in before all_before) cs) begun))
           (stands_still what before all_before u all c still.0, right_before what before all_before u all new cs still.1))
       | inr waits ↦
-          subst (λ (items : List HeldCommand). IsRight what u all items (before_first waits_in (standing_in u all new) (map (standing_in before all_before) (c ∷ cs)))) (sym (before-waits new c cs waits))
-          (subst (IsRight what u all (new ∷ c ∷ cs)) (sym (kept-waits (standing_in u all new) (standing_in before all_before c) (map (standing_in before all_before) cs) waits))
+          subst (λ (items : List HeldCommand). IsRight what u all items (before_first waits_in (known_in u all new) (map (known_in before all_before) (c ∷ cs)))) (sym (before-waits new c cs waits))
+          (subst (IsRight what u all (new ∷ c ∷ cs)) (sym (kept-waits (known_in u all new) (known_in before all_before c) (map (known_in before all_before) cs) waits))
           ((λ untouched. refl), right_all what before all_before u all (c ∷ cs) still))
     ]
 
@@ -395,7 +388,7 @@ record Begins (u : Bool) (what : Change) (n : ℕ) (all : List HeldCommand) (fou
 
 still_begun : (u : Bool) (what : Change) (n : ℕ) (all : List HeldCommand) (found c : HeldCommand) → Begins u what n all found → (c.no == n) ≡ false → IsStill what u all u (with_begun n all) c
 still_begun u what n all found c begins apart yet untouched =
-    begun_waits u true c found n all begins.single begins.at begins.waits apart (sym (begins.sees c (standing_in u all c)) ∙ untouched)
+    begun_waits u true c found n all begins.single begins.at begins.waits apart (sym (begins.sees c (known_in u all c)) ∙ untouched)
 
 still_absent : (u : Bool) (what : Change) (n : ℕ) (all : List HeldCommand) (found : HeldCommand) (cs : List HeldCommand) → Begins u what n all found → IsNone (command_of n cs)
     → AreStill what u all u (with_begun n all) cs
@@ -405,7 +398,7 @@ still_absent u what n all found (c ∷ cs) begins absent =
     (still_begun u what n all found c begins parts.0, still_absent u what n all found cs begins parts.1)
 
 right_begun : (u : Bool) (what : Change) (n : ℕ) (all : List HeldCommand) (found : HeldCommand) (cs : List HeldCommand) → Begins u what n all found → IsSingle cs → command_of n cs ≡ Some found
-    → IsRight what u (with_begun n all) (with_begun n cs) (slice_set (map (standing_in u all) cs) (place_of n cs) (standing_in u (with_begun n all) (begun_of found)))
+    → IsRight what u (with_begun n all) (with_begun n cs) (slice_set (map (known_in u all) cs) (place_of n cs) (known_in u (with_begun n all) (begun_of found)))
 right_begun u what n all found [] begins single at = absurd (none_some at)
   where
     none_some : None ≡ Some found → ⊥
@@ -414,18 +407,18 @@ right_begun u what n all found (c ∷ cs) begins single at =
     elim (cases_Bool (c.no == n)) [
       | inl this ↦
           let is : c ≡ found = some_same (sym (when-true (c.no == n) (Some c) (command_of n cs) this) ∙ at) in
-          subst (λ (items : List HeldCommand). IsRight what u (with_begun n all) items (slice_set (map (standing_in u all) (c ∷ cs)) (place_of n (c ∷ cs)) (standing_in u (with_begun n all) (begun_of found))))
+          subst (λ (items : List HeldCommand). IsRight what u (with_begun n all) items (slice_set (map (known_in u all) (c ∷ cs)) (place_of n (c ∷ cs)) (known_in u (with_begun n all) (begun_of found))))
           (sym (with_begun-this n c cs single this))
-          (subst (λ (place : ℕ). IsRight what u (with_begun n all) (begun_of c ∷ cs) (slice_set (map (standing_in u all) (c ∷ cs)) place (standing_in u (with_begun n all) (begun_of found))))
+          (subst (λ (place : ℕ). IsRight what u (with_begun n all) (begun_of c ∷ cs) (slice_set (map (known_in u all) (c ∷ cs)) place (known_in u (with_begun n all) (begun_of found))))
           (sym (place-here n c cs this)) (
-            (λ untouched. ap (λ (it : HeldCommand). standing_in u (with_begun n all) (begun_of it)) (sym is)),
+            (λ untouched. ap (λ (it : HeldCommand). known_in u (with_begun n all) (begun_of it)) (sym is)),
             right_all what u all u (with_begun n all) cs (still_absent u what n all found cs begins (absent_behind n c cs single this)),
           ))
       | inr more ↦
           let later : command_of n cs ≡ Some found = sym (when-false (c.no == n) (Some c) (command_of n cs) more) ∙ at in
-          subst (λ (items : List HeldCommand). IsRight what u (with_begun n all) items (slice_set (map (standing_in u all) (c ∷ cs)) (place_of n (c ∷ cs)) (standing_in u (with_begun n all) (begun_of found))))
+          subst (λ (items : List HeldCommand). IsRight what u (with_begun n all) items (slice_set (map (known_in u all) (c ∷ cs)) (place_of n (c ∷ cs)) (known_in u (with_begun n all) (begun_of found))))
           (sym (with_begun-other n c cs more))
-          (subst (λ (place : ℕ). IsRight what u (with_begun n all) (c ∷ with_begun n cs) (slice_set (map (standing_in u all) (c ∷ cs)) place (standing_in u (with_begun n all) (begun_of found))))
+          (subst (λ (place : ℕ). IsRight what u (with_begun n all) (c ∷ with_begun n cs) (slice_set (map (known_in u all) (c ∷ cs)) place (known_in u (with_begun n all) (begun_of found))))
           (sym (place-other n c cs more))
           (stands_still what u all u (with_begun n all) c (still_begun u what n all found c begins more), right_begun u what n all found cs begins single.1 later))
     ]
@@ -438,22 +431,22 @@ still_order : (before : Bool) (all : List HeldCommand) (u : Bool) (cs : List Hel
 still_order before all u [] = tt
 still_order before all u (c ∷ cs) = ((λ waits untouched. absurd (false≢true (sym untouched))), still_order before all u cs)
 
-pub right_order : (before u : Bool) (all : List HeldCommand) → IsRight change.Order u all all (map (standing_in before all) all)
+pub right_order : (before u : Bool) (all : List HeldCommand) → IsRight change.Order u all all (map (known_in before all) all)
 right_order before u all = right_all change.Order before all u all all (still_order before all u all)
 
-pub right_left : (u : Bool) (leaving : ℕ) (all : List HeldCommand) → IsRight (change.Left leaving) u (without leaving all) (without leaving all) (map (standing_in u all) (without leaving all))
+pub right_left : (u : Bool) (leaving : ℕ) (all : List HeldCommand) → IsRight (change.Left leaving) u (without leaving all) (without leaving all) (map (known_in u all) (without leaving all))
 right_left u leaving all = right_all (change.Left leaving) u all u (without leaving all) (without leaving all) (still_left u leaving all all)
 
 pub right_entered : (u : Bool) (what : Change) (new : HeldCommand) (all : List HeldCommand) → TouchesBy u true new.held what → new.held.begun ≡ false → IsNone (command_of new.no all)
-    → IsRight what u (before_first waits_yet new all) (before_first waits_yet new all) (before_first waits_in (standing_in u (before_first waits_yet new all) new) (map (standing_in u all) all))
+    → IsRight what u (before_first waits_yet new all) (before_first waits_yet new all) (before_first waits_in (known_in u (before_first waits_yet new all) new) (map (known_in u all) all))
 right_entered u what new all sees waits fresh = right_before what u all u (before_first waits_yet new all) new all (still_entered u what new all all sees waits fresh)
 
 pub right_beginning : (u : Bool) (what : Change) (n : ℕ) (all : List HeldCommand) (found : HeldCommand) → IsSingle all → command_of n all ≡ Some found → found.held.begun ≡ false → TouchesBy u false (begun_of found).held what
-    → IsRight what u (with_begun n all) (with_begun n all) (slice_set (map (standing_in u all) all) (place_of n all) (standing_in u (with_begun n all) (begun_of found)))
+    → IsRight what u (with_begun n all) (with_begun n all) (slice_set (map (known_in u all) all) (place_of n all) (known_in u (with_begun n all) (begun_of found)))
 right_beginning u what n all found single at waits sees = right_begun u what n all found all (record { single = single; at = at; waits = waits; sees = sees }) single at
 
 -- what is read of a queue is read of what is kept beside it
-pub place_kept : (f : HeldCommand → Standing) (test : Standing → Bool) (cs : List HeldCommand) → position_or_len test (map f cs) ≡ position_or_len (λ c. test (f c)) cs
+pub place_kept : (f : HeldCommand → KnownCommand) (test : KnownCommand → Bool) (cs : List HeldCommand) → position_or_len test (map f cs) ≡ position_or_len (λ c. test (f c)) cs
 place_kept f test [] = refl
 place_kept f test (c ∷ cs) =
     elim (cases_Bool (test (f c))) [
@@ -461,7 +454,7 @@ place_kept f test (c ∷ cs) =
       | inr other ↦ rw other (ap (λ (n : ℕ). 1 + n) (place_kept f test cs))
     ]
 
-pub found_kept : (f : HeldCommand → Standing) (test : Standing → Bool) (cs : List HeldCommand) → find test (map f cs) ≡ option_map f (find (λ c. test (f c)) cs)
+pub found_kept : (f : HeldCommand → KnownCommand) (test : KnownCommand → Bool) (cs : List HeldCommand) → find test (map f cs) ≡ option_map f (find (λ c. test (f c)) cs)
 found_kept f test [] = refl
 found_kept f test (c ∷ cs) =
     elim (cases_Bool (test (f c))) [
@@ -469,31 +462,31 @@ found_kept f test (c ∷ cs) =
       | inr other ↦ rw other (found_kept f test cs)
     ]
 
-pub left_kept : (f : HeldCommand → Standing) (at : ℕ) (cs : List HeldCommand) → at < length cs → remove (map f cs) at ≡ map f (remove cs at)
+pub left_kept : (f : HeldCommand → KnownCommand) (at : ℕ) (cs : List HeldCommand) → at < length cs → remove (map f cs) at ≡ map f (remove cs at)
 left_kept f at [] within = absurd (omega (arith, within))
 left_kept f zero (c ∷ cs) within = refl
-left_kept f (suc at) (c ∷ cs) within = ap (λ (rest : List Standing). f c ∷ rest) (left_kept f at cs (omega (arith, within)))
+left_kept f (suc at) (c ∷ cs) within = ap (λ (rest : List KnownCommand). f c ∷ rest) (left_kept f at cs (omega (arith, within)))
 
 ready_same : (begun : Bool) (blocker : Option ℕ) → (not begun && is_none (if begun then None else blocker)) ≡ (not begun && is_none blocker)
 ready_same true blocker = refl
 ready_same false blocker = refl
 
-ready_alike : (set : TaskSet) (c : HeldCommand) → is_ready_in (standing_in set.unrestricted set.commands c) ≡ is_ready set c
+ready_alike : (set : TaskSet) (c : HeldCommand) → is_ready_in (known_in set.unrestricted set.commands c) ≡ is_ready set c
 unfolding blocker_of
 ready_alike set c = ready_same c.held.begun (first_to_wait_for set.unrestricted true c set.commands)
 
-pub ready_kept : (set : TaskSet) (cs : List HeldCommand) → number_in (find is_ready_in (map (standing_in set.unrestricted set.commands) cs)) ≡ number_of (find (is_ready set) cs)
+pub ready_kept : (set : TaskSet) (cs : List HeldCommand) → number_in (find is_ready_in (map (known_in set.unrestricted set.commands) cs)) ≡ number_of (find (is_ready set) cs)
 ready_kept set [] = refl
-ready_kept set (c ∷ cs) = go (is_ready_in (standing_in set.unrestricted set.commands c)) (is_ready set c) (ready_alike set c) (ready_kept set cs)
+ready_kept set (c ∷ cs) = go (is_ready_in (known_in set.unrestricted set.commands c)) (is_ready set c) (ready_alike set c) (ready_kept set cs)
   where
-    go : (kept told : Bool) → kept ≡ told → number_in (find is_ready_in (map (standing_in set.unrestricted set.commands) cs)) ≡ number_of (find (is_ready set) cs)
-        → number_in (if kept then Some (standing_in set.unrestricted set.commands c) else find is_ready_in (map (standing_in set.unrestricted set.commands) cs)) ≡ number_of (if told then Some c else find (is_ready set) cs)
+    go : (kept told : Bool) → kept ≡ told → number_in (find is_ready_in (map (known_in set.unrestricted set.commands) cs)) ≡ number_of (find (is_ready set) cs)
+        → number_in (if kept then Some (known_in set.unrestricted set.commands c) else find is_ready_in (map (known_in set.unrestricted set.commands) cs)) ≡ number_of (if told then Some c else find (is_ready set) cs)
     go true true same later = refl
     go true false same later = absurd (false≢true (sym same))
     go false true same later = absurd (false≢true same)
     go false false same later = later
 
-pub begun_kept : (u : Bool) (all cs : List HeldCommand) → number_in (find has_begun_in (map (standing_in u all) cs)) ≡ number_of (find (λ command. command.held.begun) cs)
+pub begun_kept : (u : Bool) (all cs : List HeldCommand) → number_in (find has_begun_in (map (known_in u all) cs)) ≡ number_of (find (λ command. command.held.begun) cs)
 begun_kept u all [] = refl
 begun_kept u all (c ∷ cs) =
     elim (cases_Bool c.held.begun) [
@@ -501,76 +494,76 @@ begun_kept u all (c ∷ cs) =
       | inr waits ↦ rw waits (begun_kept u all cs)
     ]
 
-pub held_kept : (u : Bool) (n : ℕ) (all cs : List HeldCommand) → find (has_number n) (map (standing_in u all) cs) ≡ option_map (standing_in u all) (command_of n cs)
-held_kept u n all cs = found_kept (standing_in u all) (has_number n) cs
+pub held_kept : (u : Bool) (n : ℕ) (all cs : List HeldCommand) → find (has_number n) (map (known_in u all) cs) ≡ option_map (known_in u all) (command_of n cs)
+held_kept u n all cs = found_kept (known_in u all) (has_number n) cs
 
 -- the same of one command
-pub is_held : (f : HeldCommand → Standing) (found : Option HeldCommand) → is_some (option_map f found) ≡ is_some found
+pub is_held : (f : HeldCommand → KnownCommand) (found : Option HeldCommand) → is_some (option_map f found) ≡ is_some found
 is_held f None = refl
 is_held f (Some c) = refl
 
-pub waits_alike : (u : Bool) (all : List HeldCommand) (found : Option HeldCommand) (kept : Standing) → option_map (standing_in u all) found ≡ Some kept → not kept.begun ≡ option_map_or waits_yet found false
+pub waits_alike : (u : Bool) (all : List HeldCommand) (found : Option HeldCommand) (kept : KnownCommand) → option_map (known_in u all) found ≡ Some kept → not kept.begun ≡ option_map_or waits_yet found false
 waits_alike u all None kept is = absurd (none_some is)
   where
     none_some : None ≡ Some kept → ⊥
     none_some h = cc
-waits_alike u all (Some c) kept is = ap (λ (it : Standing). not it.begun) (sym (some_same is))
+waits_alike u all (Some c) kept is = ap (λ (it : KnownCommand). not it.begun) (sym (some_same is))
   where
-    some_same : Some (standing_in u all c) ≡ Some kept → standing_in u all c ≡ kept
+    some_same : Some (known_in u all c) ≡ Some kept → known_in u all c ≡ kept
     some_same h = cc
 
-pub absent_alike : (u : Bool) (all : List HeldCommand) (found : Option HeldCommand) → option_map (standing_in u all) found ≡ None → found ≡ None
+pub absent_alike : (u : Bool) (all : List HeldCommand) (found : Option HeldCommand) → option_map (known_in u all) found ≡ None → found ≡ None
 absent_alike u all None is = refl
 absent_alike u all (Some c) is = absurd (some_none is)
   where
-    some_none : Some (standing_in u all c) ≡ None → ⊥
+    some_none : Some (known_in u all c) ≡ None → ⊥
     some_none h = cc
 
-pub blocker_alike : (set : TaskSet) (found : Option HeldCommand) (kept : Standing) → option_map (standing_in set.unrestricted set.commands) found ≡ Some kept → IsSomeAnd found (λ c. c.held.begun ≡ false)
+pub blocker_alike : (set : TaskSet) (found : Option HeldCommand) (kept : KnownCommand) → option_map (known_in set.unrestricted set.commands) found ≡ Some kept → IsSomeAnd found (λ c. c.held.begun ≡ false)
     → IfSome found (λ c. kept.blocker ≡ blocker_of set c)
 unfolding blocker_of
 blocker_alike set None kept is waits = tt
-blocker_alike set (Some c) kept is waits = ap (λ (it : Standing). it.blocker) (sym (some_same is)) ∙ blocker_waits set.unrestricted set.commands c waits
+blocker_alike set (Some c) kept is waits = ap (λ (it : KnownCommand). it.blocker) (sym (some_same is)) ∙ blocker_waits set.unrestricted set.commands c waits
   where
-    some_same : Some (standing_in set.unrestricted set.commands c) ≡ Some kept → standing_in set.unrestricted set.commands c ≡ kept
+    some_same : Some (known_in set.unrestricted set.commands c) ≡ Some kept → known_in set.unrestricted set.commands c ≡ kept
     some_same h = cc
 
 -- where a number stands in what is kept
-pub placed_alike : (u : Bool) (n : ℕ) (all cs : List HeldCommand) (kept : List Standing) → kept ≡ map (standing_in u all) cs → position_or_len (has_number n) kept ≡ place_of n cs
-placed_alike u n all cs kept is = ap (position_or_len (has_number n)) is ∙ place_kept (standing_in u all) (has_number n) cs
+pub placed_alike : (u : Bool) (n : ℕ) (all cs : List HeldCommand) (kept : List KnownCommand) → kept ≡ map (known_in u all) cs → position_or_len (has_number n) kept ≡ place_of n cs
+placed_alike u n all cs kept is = ap (position_or_len (has_number n)) is ∙ place_kept (known_in u all) (has_number n) cs
 
-pub waiting_alike : (u : Bool) (all cs : List HeldCommand) (kept : List Standing) → kept ≡ map (standing_in u all) cs → position_or_len waits_in kept ≡ waiting_from cs
-waiting_alike u all cs kept is = ap (position_or_len waits_in) is ∙ place_kept (standing_in u all) waits_in cs
+pub waiting_alike : (u : Bool) (all cs : List HeldCommand) (kept : List KnownCommand) → kept ≡ map (known_in u all) cs → position_or_len waits_in kept ≡ waiting_from cs
+waiting_alike u all cs kept is = ap (position_or_len waits_in) is ∙ place_kept (known_in u all) waits_in cs
 
-pub length_alike : (u : Bool) (all cs : List HeldCommand) (kept : List Standing) → kept ≡ map (standing_in u all) cs → length kept ≡ length cs
-length_alike u all cs kept is = ap length is ∙ length-map cs (standing_in u all)
+pub length_alike : (u : Bool) (all cs : List HeldCommand) (kept : List KnownCommand) → kept ≡ map (known_in u all) cs → length kept ≡ length cs
+length_alike u all cs kept is = ap length is ∙ length-map cs (known_in u all)
 
-pub right_inserted : (u : Bool) (what : Change) (new entered : HeldCommand) (all : List HeldCommand) (kept : List Standing) (at : ℕ) → kept ≡ map (standing_in u all) all → at ≡ waiting_from all → entered ≡ new
-    → TouchesBy u true new.held what → new.held.begun ≡ false → IsNone (command_of new.no all) → IsRight what u (insert all at new) (insert all at new) (insert kept at (standing_in u (insert all at new) entered))
+pub right_inserted : (u : Bool) (what : Change) (new entered : HeldCommand) (all : List HeldCommand) (kept : List KnownCommand) (at : ℕ) → kept ≡ map (known_in u all) all → at ≡ waiting_from all → entered ≡ new
+    → TouchesBy u true new.held what → new.held.begun ≡ false → IsNone (command_of new.no all) → IsRight what u (insert all at new) (insert all at new) (insert kept at (known_in u (insert all at new) entered))
 right_inserted u what new entered all kept at is place same sees waits fresh =
     rw (is, place, same, insert_first waits_yet new all)
     (subst (IsRight what u (before_first waits_yet new all) (before_first waits_yet new all)) (sym inserted) (right_entered u what new all sees waits fresh))
   where
-    inserted : insert (map (standing_in u all) all) (waiting_from all) (standing_in u (before_first waits_yet new all) new) ≡ before_first waits_in (standing_in u (before_first waits_yet new all) new) (map (standing_in u all) all)
+    inserted : insert (map (known_in u all) all) (waiting_from all) (known_in u (before_first waits_yet new all) new) ≡ before_first waits_in (known_in u (before_first waits_yet new all) new) (map (known_in u all) all)
     inserted =
-        ap (λ (n : ℕ). insert (map (standing_in u all) all) n (standing_in u (before_first waits_yet new all) new)) (sym (place_kept (standing_in u all) waits_in all))
-        ∙ insert_first waits_in (standing_in u (before_first waits_yet new all) new) (map (standing_in u all) all)
+        ap (λ (n : ℕ). insert (map (known_in u all) all) n (known_in u (before_first waits_yet new all) new)) (sym (place_kept (known_in u all) waits_in all))
+        ∙ insert_first waits_in (known_in u (before_first waits_yet new all) new) (map (known_in u all) all)
 
-pub right_set : (u : Bool) (what : Change) (n : ℕ) (found entered : HeldCommand) (all : List HeldCommand) (kept : List Standing) (at : ℕ) → kept ≡ map (standing_in u all) all → at ≡ place_of n all → IsSingle all
+pub right_set : (u : Bool) (what : Change) (n : ℕ) (found entered : HeldCommand) (all : List HeldCommand) (kept : List KnownCommand) (at : ℕ) → kept ≡ map (known_in u all) all → at ≡ place_of n all → IsSingle all
     → command_of n all ≡ Some found → found.held.begun ≡ false → entered ≡ begun_of found → TouchesBy u false (begun_of found).held what
-    → IsRight what u (slice_set all at (begun_of found)) (slice_set all at (begun_of found)) (slice_set kept at (standing_in u (slice_set all at (begun_of found)) entered))
+    → IsRight what u (slice_set all at (begun_of found)) (slice_set all at (begun_of found)) (slice_set kept at (known_in u (slice_set all at (begun_of found)) entered))
 right_set u what n found entered all kept at is place single has waits same sees =
     rw (is, place, same, set-place n all found single (place_item n all ∙ has)) (right_beginning u what n all found single has waits sees)
 
-pub right_removed : (u : Bool) (n : ℕ) (all : List HeldCommand) (kept : List Standing) (at : ℕ) → kept ≡ map (standing_in u all) all → at ≡ place_of n all → at < length all → IsSingle all
+pub right_removed : (u : Bool) (n : ℕ) (all : List HeldCommand) (kept : List KnownCommand) (at : ℕ) → kept ≡ map (known_in u all) all → at ≡ place_of n all → at < length all → IsSingle all
     → IsRight (change.Left n) u (remove all at) (remove all at) (remove kept at)
 right_removed u n all kept at is place within single =
-    rw (is, left_kept (standing_in u all) at all within, place, remove-place n all single) (right_left u n all)
+    rw (is, left_kept (known_in u all) at all within, place, remove-place n all single) (right_left u n all)
 
-pub number_alike : (u : Bool) (all cs : List HeldCommand) (at : ℕ) → number_in (slice_get (map (standing_in u all) cs) at) ≡ number_of (slice_get cs at)
-number_alike u all cs at = ap number_in (slice_get-map (standing_in u all) cs at) ∙ go (slice_get cs at)
+pub number_alike : (u : Bool) (all cs : List HeldCommand) (at : ℕ) → number_in (slice_get (map (known_in u all) cs) at) ≡ number_of (slice_get cs at)
+number_alike u all cs at = ap number_in (slice_get-map (known_in u all) cs at) ∙ go (slice_get cs at)
   where
-    go : (found : Option HeldCommand) → number_in (option_map (standing_in u all) found) ≡ number_of found
+    go : (found : Option HeldCommand) → number_in (option_map (known_in u all) found) ≡ number_of found
     go None = refl
     go (Some c) = refl
 

@@ -3,9 +3,9 @@
 
 ghost use Rattle.std.specs.Prelude.{◌≡◌, false, length};
 
+mod known_command;
 mod queue;
 mod search;
-mod standing;
 
 pub use queue::Queue;
 

@@ -1,9 +1,10 @@
 ghost use Rattle.std.specs.Prelude.{◌≡◌, ◌≤◌, [], IfOk, IsSome, false};
 ghost use Rattle.ct_matrix.specs.Queues.{command_of, without};
 
+use crate::known_command::{Change, KnownCommand, known_of, refresh};
 use crate::search::{begun, find, first_waiting, number_at, place, ready};
-use crate::standing::{Change, Standing, refresh, standing_of};
 use ct_matrix::{Attr, Held, HeldCommand, Steps, Waits};
+use ct_shelf::Shelf;
 use ct_word::{CmdNo, NoMemory, Reserve};
 use std::alloc::Global;
 use std::marker::Model;
@@ -12,9 +13,9 @@ use std::sync::ledger::Ledger;
 /// A task set (SAM-5, clause 8) as a list in queue order. All its memory is taken when it is opened.
 #[derive(Debug, Drop)]
 pub struct Queue {
-    commands: Reserve<HeldCommand>,
+    commands: Shelf<HeldCommand>,
     // Of each command, in the same order.
-    standings: Reserve<Standing>,
+    known: Reserve<KnownCommand>,
     depth: u32,
     unrestricted: bool,
 }
@@ -22,13 +23,13 @@ pub struct Queue {
 impl Model for Queue {
     ghost use Rattle.ct_matrix.specs.Queues.{TaskSet};
     ghost use Rattle.ct_queue.specs.Sound.{IsSound};
-    ghost use Rattle.ct_queue.specs.Standings.{AreKept};
+    ghost use Rattle.ct_queue.specs.KnownCommands.{AreKept};
 
     ghost Value = { TaskSet };
 
     ghost view = { λ q. record { commands = q.commands.items; depth = q.depth; unrestricted = q.unrestricted } };
 
-    ghost invariant = { λ q. IsSound q.commands q.depth × AreKept q.unrestricted q.commands q.standings };
+    ghost invariant = { λ q. IsSound q.commands q.depth × AreKept q.unrestricted q.commands q.known };
 }
 
 impl Queue {
@@ -39,8 +40,8 @@ impl Queue {
         ensures { IfOk result (λ q. q ≡ record { commands = []; depth = depth; unrestricted = false }) }
     {
         Ok(Queue {
-            commands: Reserve::open(alloc, depth as usize)?,
-            standings: Reserve::open(alloc, depth as usize)?,
+            commands: Shelf::open(alloc, depth as usize)?,
+            known: Reserve::open(alloc, depth as usize)?,
             depth,
             unrestricted: false,
         })
@@ -53,34 +54,34 @@ impl Waits for Queue {
     fn enter(&mut self, no: CmdNo, held: Held) {
         match held.attr {
             Attr::Head => {
-                let at = first_waiting(self.standings.as_slice());
+                let at = first_waiting(self.known.as_slice());
                 self.commands.insert(at, HeldCommand { no, held });
-                let commands = self.commands.as_slice();
-                let entered = &commands[at];
-                self.standings
-                    .insert(at, standing_of(commands, entered, self.unrestricted));
-                let change = Change::Entered(&entered.held);
-                refresh(&mut self.standings, commands, &change, self.unrestricted);
+                let commands = &self.commands;
+                let entered = commands.item(at);
+                self.known
+                    .insert(at, known_of(commands, entered, self.unrestricted));
+                let change = Change::Entered(entered);
+                refresh(&mut self.known, commands, &change, self.unrestricted);
             }
             Attr::Simple | Attr::Ordered => {
                 let at = self.commands.len();
                 self.commands.push(HeldCommand { no, held });
-                let commands = self.commands.as_slice();
-                self.standings
-                    .push(standing_of(commands, &commands[at], self.unrestricted));
+                let commands = &self.commands;
+                self.known
+                    .push(known_of(commands, commands.item(at), self.unrestricted));
             }
         }
     }
 
     fn begin(&mut self, no: CmdNo) {
-        let at = place(self.standings.as_slice(), no);
+        let at = place(self.known.as_slice(), no);
         self.commands.item_mut(at).held.begun = true;
-        let commands = self.commands.as_slice();
-        let begun = &commands[at];
-        self.standings
-            .set(at, standing_of(commands, begun, self.unrestricted));
-        let change = Change::Begun(&begun.held);
-        refresh(&mut self.standings, commands, &change, self.unrestricted);
+        let commands = &self.commands;
+        let begun = commands.item(at);
+        self.known
+            .set(at, known_of(commands, begun, self.unrestricted));
+        let change = Change::Begun(begun);
+        refresh(&mut self.known, commands, &change, self.unrestricted);
     }
 
     fn set_order(&mut self, free_order: bool) {
@@ -88,46 +89,45 @@ impl Waits for Queue {
             return;
         }
         self.unrestricted = free_order;
-        let commands = self.commands.as_slice();
-        refresh(&mut self.standings, commands, &Change::Order, free_order);
+        refresh(&mut self.known, &self.commands, &Change::Order, free_order);
     }
 
     fn blocker(&self, no: CmdNo) -> Option<CmdNo> {
-        find(self.standings.as_slice(), no)?.blocker
+        find(self.known.as_slice(), no)?.blocker
     }
 
     fn next_ready(&self) -> Option<CmdNo> {
-        ready(self.standings.as_slice())
+        ready(self.known.as_slice())
     }
 
     fn first_begun(&self) -> Option<CmdNo> {
-        begun(self.standings.as_slice())
+        begun(self.known.as_slice())
     }
 
     fn first(&self) -> Option<CmdNo> {
-        number_at(self.standings.as_slice(), 0)
+        number_at(self.known.as_slice(), 0)
     }
 
     fn after(&self, no: CmdNo) -> Option<CmdNo> {
-        let standings = self.standings.as_slice();
-        number_at(standings, place(standings, no) + 1)
+        let known = self.known.as_slice();
+        number_at(known, place(known, no) + 1)
     }
 
     fn len(&self) -> u32 {
-        self.standings.len() as u32
+        self.known.len() as u32
     }
 
     fn is_full(&self) -> bool {
-        self.standings.room() == 0
+        self.known.room() == 0
     }
 
     fn holds(&self, no: CmdNo) -> bool {
-        find(self.standings.as_slice(), no).is_some()
+        find(self.known.as_slice(), no).is_some()
     }
 
     fn waits(&self, no: CmdNo) -> bool {
-        match find(self.standings.as_slice(), no) {
-            Some(standing) => !standing.begun,
+        match find(self.known.as_slice(), no) {
+            Some(command) => !command.begun,
             None => false,
         }
     }
@@ -137,12 +137,12 @@ impl Waits for Queue {
         ensures left { self.new ≡ record self.old { commands = without no self.old.commands } }
         ensures counted { steps.new ≡ steps.old }
     {
-        let at = place(self.standings.as_slice(), no);
+        let at = place(self.known.as_slice(), no);
         let _left = self.commands.remove(at);
-        let _kept = self.standings.remove(at);
-        let commands = self.commands.as_slice();
+        let _kept = self.known.remove(at);
+        let commands = &self.commands;
         refresh(
-            &mut self.standings,
+            &mut self.known,
             commands,
             &Change::Left(no),
             self.unrestricted,

@@ -4,46 +4,47 @@ ghost use Rattle.std.specs.Prelude.{◌≡◌, true, slice_get};
 ghost use Rattle.std.specs.List.{find, position_or_len};
 ghost use Rattle.ct_matrix.specs.Conflicts.{has_to_wait};
 ghost use Rattle.ct_matrix.specs.Queues.{first_to_wait_for};
-ghost use Rattle.ct_queue.specs.Standings.{has_number, waits_in, is_ready_in, has_begun_in, number_in};
+ghost use Rattle.ct_queue.specs.KnownCommands.{has_number, waits_in, is_ready_in, has_begun_in, number_in};
 
-use crate::standing::Standing;
+use crate::known_command::KnownCommand;
 use ct_matrix::{Demand, Held, HeldCommand, demand};
+use ct_shelf::Shelf;
 use ct_word::CmdNo;
 
 /// Where the command with a number stands, or the length.
-pub(crate) fn place(standings: &[Standing], no: CmdNo) -> usize
-    ensures { result ≡ position_or_len (has_number no) standings.now }
+pub(crate) fn place(known: &[KnownCommand], no: CmdNo) -> usize
+    ensures { result ≡ position_or_len (has_number no) known.now }
 {
-    for (at, standing) in standings.iter().enumerate() {
-        if standing.no == no {
+    for (at, command) in known.iter().enumerate() {
+        if command.no == no {
             return at;
         }
     }
-    standings.len()
+    known.len()
 }
 
 /// What is kept of the command with a number.
-pub(crate) fn find(standings: &[Standing], no: CmdNo) -> Option<Standing>
-    ensures { result ≡ find (has_number no) standings.now }
+pub(crate) fn find(known: &[KnownCommand], no: CmdNo) -> Option<KnownCommand>
+    ensures { result ≡ find (has_number no) known.now }
 {
-    for standing in standings {
-        if standing.no == no {
-            return Some(*standing);
+    for command in known {
+        if command.no == no {
+            return Some(*command);
         }
     }
     None
 }
 
 /// Where the first command that waits stands, or the length.
-pub(crate) fn first_waiting(standings: &[Standing]) -> usize
-    ensures { result ≡ position_or_len waits_in standings.now }
+pub(crate) fn first_waiting(known: &[KnownCommand]) -> usize
+    ensures { result ≡ position_or_len waits_in known.now }
 {
-    for (at, standing) in standings.iter().enumerate() {
-        if !standing.begun {
+    for (at, command) in known.iter().enumerate() {
+        if !command.begun {
             return at;
         }
     }
-    standings.len()
+    known.len()
 }
 
 /// A waiting command has to wait for a live one, which stands ahead of it or behind it.
@@ -58,14 +59,15 @@ pub(crate) fn waits_for(live: &Held, waiting: &Held, ahead: bool, free_order: bo
 
 /// The first command for which a waiting one has to wait.
 pub(crate) fn blocker(
-    commands: &[HeldCommand],
+    commands: &Shelf<HeldCommand>,
     waiting: &HeldCommand,
     free_order: bool,
 ) -> Option<CmdNo>
-    ensures { result ≡ first_to_wait_for free_order true waiting.now commands.now }
+    ensures { result ≡ first_to_wait_for free_order true waiting.now commands.now.items }
 {
     let mut ahead = true;
-    for live in commands {
+    for at in 0..commands.len() {
+        let live = commands.item(at);
         if live.no == waiting.no {
             ahead = false;
         } else if waits_for(&live.held, &waiting.held, ahead, free_order) {
@@ -76,32 +78,32 @@ pub(crate) fn blocker(
 }
 
 /// The first waiting command that has to wait for none.
-pub(crate) fn ready(standings: &[Standing]) -> Option<CmdNo>
-    ensures { result ≡ number_in (find is_ready_in standings.now) }
+pub(crate) fn ready(known: &[KnownCommand]) -> Option<CmdNo>
+    ensures { result ≡ number_in (find is_ready_in known.now) }
 {
-    for standing in standings {
-        if !standing.begun && standing.blocker.is_none() {
-            return Some(standing.no);
+    for command in known {
+        if !command.begun && command.blocker.is_none() {
+            return Some(command.no);
         }
     }
     None
 }
 
 /// The first command that has begun.
-pub(crate) fn begun(standings: &[Standing]) -> Option<CmdNo>
-    ensures { result ≡ number_in (find has_begun_in standings.now) }
+pub(crate) fn begun(known: &[KnownCommand]) -> Option<CmdNo>
+    ensures { result ≡ number_in (find has_begun_in known.now) }
 {
-    for standing in standings {
-        if standing.begun {
-            return Some(standing.no);
+    for command in known {
+        if command.begun {
+            return Some(command.no);
         }
     }
     None
 }
 
 /// The number of the command at a place.
-pub(crate) fn number_at(standings: &[Standing], at: usize) -> Option<CmdNo>
-    ensures { result ≡ number_in (slice_get standings.now at) }
+pub(crate) fn number_at(known: &[KnownCommand], at: usize) -> Option<CmdNo>
+    ensures { result ≡ number_in (slice_get known.now at) }
 {
-    standings.get(at).map(|standing| standing.no)
+    known.get(at).map(|command| command.no)
 }

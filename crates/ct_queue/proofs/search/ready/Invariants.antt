@@ -1,7 +1,7 @@
 use Rattle.std.proofs.Common.{◌≡◌, drop}
 use Rattle.std.specs.List.{find}
-use Rattle.ct_queue.specs.Standings.{is_ready_in}
+use Rattle.ct_queue.specs.KnownCommands.{is_ready_in}
 use Rattle.ct_queue.proofs.search.ready.Given as goal
 
-abbrev pub invariant-loop-standing : goal.invariant-loop-standing
-invariant-loop-standing l = find is_ready_in (drop l.standing-index l.standings) ≡ find is_ready_in l.standings
+abbrev pub invariant-loop-command : goal.invariant-loop-command
+invariant-loop-command l = find is_ready_in (drop l.command-index l.known) ≡ find is_ready_in l.known

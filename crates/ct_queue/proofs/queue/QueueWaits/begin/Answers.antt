@@ -1,9 +1,10 @@
-use Rattle.std.proofs.Common.{◌≡◌, false, ℕ, ◌<◌, ◌≤◌, ◌+◌, ◌-◌, Some, None, IsSome, IsNone, IsSomeAnd, length, get_or, slice_get, slice_set, insert, remove, refl, sym, ap, ◌∙◌, subst, arith, List}
+use Rattle.std.proofs.Common.{◌≡◌, false, ◌<◌, Some, length, slice_get, slice_set, refl, sym, ap, ◌∙◌}
 use Rattle.std.proofs.lemmas.List.{get_or-set_same}
+use Rattle.std.proofs.lemmas.Option.{get_or_from_slice_get}
 use Rattle.ct_matrix.specs.Conflicts.{has_to_wait}
 use Rattle.ct_matrix.specs.Queues.{command_of}
 use Rattle.ct_matrix.specs.declared.held.HeldCommand.{HeldCommand}
-use Rattle.ct_queue.specs.declared.standing.Change.TheVariants as change
+use Rattle.ct_queue.specs.declared.known_command.Change.TheVariants as change
 use Rattle.ct_queue.specs.Sound.{place_of}
 use Rattle.ct_queue.proofs.Commands.{place_within, place_item, waiting_held, set-place, sound-begun, waits_found}
 use Rattle.ct_queue.proofs.Known.{begun_of, placed_alike, right_set}
@@ -16,7 +17,7 @@ item_mut-requires c =
 pub invariant_of-self : goal.invariant_of-self
 invariant_of-self c =
     let place : c.place-at.result ≡ place_of c.args.no c.self.inside.commands.items = c.place-at.ensures ∙ placed_alike _ _ _ _ _ (c.as_slice.ensures ∙ c.self.invariant.1.items) in
-    rw (c.refresh.ensures, c.as_slice-commands.ensures, c.set.ensures) (sound-begun _ _ _ c.args.no _ c.self.invariant.0 place c.item_mut.ensures.value, record { items = refl; room = c.self.invariant.1.room })
+    rw (c.refresh.ensures, c.set.ensures) (sound-begun _ _ _ c.args.no _ c.self.invariant.0 place c.item_mut.ensures.value, record { items = refl; room = c.self.invariant.1.room })
 
 pub refresh-requires : goal.refresh-requires
 refresh-requires c =
@@ -24,11 +25,11 @@ refresh-requires c =
     let within : c.place-at.result < length c.self.inside.commands.items = rw place (place_within _ _ (waiting_held _ (rw (← c.self.view_is) at c.requires))) in
     let found : command_of c.args.no c.self.inside.commands.items ≡ Some c.item_mut.result.now =
     sym (place_item c.args.no c.self.inside.commands.items) ∙ ap (slice_get c.self.inside.commands.items) (sym place) ∙ c.item_mut.ensures.value in
-    let read : c.index-commands-at.result ≡ begun_of c.item_mut.result.now =
-    c.index-commands-at.is ∙ ap (λ (items : List HeldCommand). get_or items c.place-at.result c.index-commands-at.result) c.as_slice-commands.ensures
-    ∙ get_or-set_same c.self.inside.commands.items c.place-at.result (begun_of c.item_mut.result.now) c.index-commands-at.result within in
-    rw (c.as_slice-commands.ensures, c.set.ensures, c.standing_of.ensures, c.as_slice-commands.ensures)
-    (right_set c.self.inside.unrestricted (change.Begun (record { ref_ptr = (0, 0); now = c.index-commands-at.result.held })) c.args.no c.item_mut.result.now c.index-commands-at.result c.self.inside.commands.items c.self.inside.standings.items c.place-at.result c.self.invariant.1.items place
+    let read : c.item-begun.result.now ≡ begun_of c.item_mut.result.now =
+    sym (get_or_from_slice_get (slice_set c.self.inside.commands.items c.place-at.result (begun_of c.item_mut.result.now)) c.place-at.result c.item-begun.result.now c.item-begun.result.now c.item-begun.ensures)
+    ∙ get_or-set_same c.self.inside.commands.items c.place-at.result (begun_of c.item_mut.result.now) c.item-begun.result.now within in
+    rw (c.set.ensures, c.known_of.ensures)
+    (right_set c.self.inside.unrestricted (change.Begun c.item-begun.result) c.args.no c.item_mut.result.now c.item-begun.result.now c.self.inside.commands.items c.self.inside.known.items c.place-at.result c.self.invariant.1.items place
     c.self.invariant.0.single found (waits_found _ _ found (rw (← c.self.view_is) at c.requires)) read (λ other kept. ap (λ (it : HeldCommand). has_to_wait c.self.inside.unrestricted false it.held other.held) read))
 
 pub returns : goal.returns

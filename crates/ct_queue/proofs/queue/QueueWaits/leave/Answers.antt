@@ -16,14 +16,14 @@ pub refresh-requires : goal.refresh-requires
 refresh-requires g c =
     let place : c.place-at.result ≡ place_of c.args.no c.self.inside.commands.items = c.place-at.ensures ∙ placed_alike _ _ _ _ _ (c.as_slice.ensures ∙ c.self.invariant.1.items) in
     let within : c.place-at.result < length c.self.inside.commands.items = rw place (place_within _ _ (rw (← c.self.view_is) at c.requires)) in
-    rw (c.as_slice-commands.ensures, c.remove-left.ensures.rest, c.remove-kept.ensures.rest)
-    (right_removed c.self.inside.unrestricted c.args.no c.self.inside.commands.items c.self.inside.standings.items c.place-at.result c.self.invariant.1.items place within c.self.invariant.0.single)
+    rw (c.remove-left.ensures.rest, c.remove-kept.ensures.rest)
+    (right_removed c.self.inside.unrestricted c.args.no c.self.inside.commands.items c.self.inside.known.items c.place-at.result c.self.invariant.1.items place within c.self.invariant.0.single)
 
 pub invariant_of-self : goal.invariant_of-self
 invariant_of-self g c =
     let place : c.place-at.result ≡ place_of c.args.no c.self.inside.commands.items = c.place-at.ensures ∙ placed_alike _ _ _ _ _ (c.as_slice.ensures ∙ c.self.invariant.1.items) in
     let within : c.place-at.result < length c.self.inside.commands.items = rw place (place_within _ _ (rw (← c.self.view_is) at c.requires)) in
-    rw (c.refresh.ensures, c.as_slice-commands.ensures, c.remove-left.ensures.rest, c.remove-kept.ensures.rest)
+    rw (c.refresh.ensures, c.remove-left.ensures.rest, c.remove-kept.ensures.rest)
     (sound-left _ _ _ c.args.no c.self.invariant.0 place within, record { items = refl; room = ap (λ (n : ℕ). n + 1) c.self.invariant.1.room })
 
 pub returns-clause-left : goal.returns-clause-left

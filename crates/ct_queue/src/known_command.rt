@@ -1,16 +1,17 @@
-//! For which command each command of a queue waits, kept beside the queue until a change may tell another.
+//! What a queue knows of each command, kept beside it until a change may tell another blocker.
 
 ghost use Rattle.std.specs.Prelude.{◌≡◌, map};
 ghost use Rattle.ct_matrix.specs.Queues.{first_to_wait_for};
-ghost use Rattle.ct_queue.specs.Standings.{standing_in, is_touched, IsRight};
+ghost use Rattle.ct_queue.specs.KnownCommands.{known_in, is_touched, IsRight};
 
 use crate::search::{blocker, waits_for};
-use ct_matrix::{Held, HeldCommand};
+use ct_matrix::HeldCommand;
+use ct_shelf::Shelf;
 use ct_word::{CmdNo, Reserve};
 
 /// What a walk over the queue reads of a command.
 #[derive(Clone, Copy, Debug, PartialEq, Eq)]
-pub(crate) struct Standing {
+pub(crate) struct KnownCommand {
     pub no: CmdNo,
     pub begun: bool,
     /// The first command for which it has to wait; none where it has begun.
@@ -23,27 +24,27 @@ pub(crate) enum Change<'a> {
     /// The order of reordering.
     Order,
     /// A HEAD OF QUEUE command entered.
-    Entered(&'a Held),
+    Entered(&'a HeldCommand),
     /// A command began.
-    Begun(&'a Held),
+    Begun(&'a HeldCommand),
     /// A command left.
     Left(CmdNo),
 }
 
 /// What is known of a command among all.
-pub(crate) fn standing_of(
-    commands: &[HeldCommand],
+pub(crate) fn known_of(
+    commands: &Shelf<HeldCommand>,
     command: &HeldCommand,
     free_order: bool,
-) -> Standing
-    ensures { result ≡ standing_in free_order commands.now command.now }
+) -> KnownCommand
+    ensures { result ≡ known_in free_order commands.now.items command.now }
 {
     let blocker = if command.held.begun {
         None
     } else {
         blocker(commands, command, free_order)
     };
-    Standing {
+    KnownCommand {
         no: command.no,
         begun: command.held.begun,
         blocker,
@@ -54,19 +55,19 @@ pub(crate) fn standing_of(
 fn is_touched(
     change: &Change<'_>,
     command: &HeldCommand,
-    standing: &Standing,
+    known: &KnownCommand,
     free_order: bool,
 ) -> bool
-    ensures { result ≡ is_touched change.now free_order command.now standing.now }
+    ensures { result ≡ is_touched change.now free_order command.now known.now }
 {
     if command.held.begun {
         return false;
     }
     match change {
         Change::Order => true,
-        Change::Entered(held) => waits_for(held, &command.held, true, free_order),
-        Change::Begun(held) => waits_for(held, &command.held, false, free_order),
-        Change::Left(no) => match standing.blocker {
+        Change::Entered(entered) => waits_for(&entered.held, &command.held, true, free_order),
+        Change::Begun(begun) => waits_for(&begun.held, &command.held, false, free_order),
+        Change::Left(no) => match known.blocker {
             Some(blocker) => blocker == *no,
             None => false,
         },
@@ -75,17 +76,18 @@ fn is_touched(
 
 /// Finds anew the blockers that a change may have touched.
 pub(crate) fn refresh(
-    standings: &mut Reserve<Standing>,
-    commands: &[HeldCommand],
+    known: &mut Reserve<KnownCommand>,
+    commands: &Shelf<HeldCommand>,
     change: &Change<'_>,
     free_order: bool,
 )
-    requires { IsRight change.now free_order commands.now commands.now standings.old.items }
-    ensures { standings.new ≡ record standings.old { items = map (standing_in free_order commands.now) commands.now } }
+    requires { IsRight change.now free_order commands.now.items commands.now.items known.old.items }
+    ensures { known.new ≡ record known.old { items = map (known_in free_order commands.now.items) commands.now.items } }
 {
-    for (at, command) in commands.iter().enumerate() {
-        if is_touched(change, command, &standings.as_slice()[at], free_order) {
-            standings.set(at, standing_of(commands, command, free_order));
+    for at in 0..commands.len() {
+        let command = commands.item(at);
+        if is_touched(change, command, &known.as_slice()[at], free_order) {
+            known.set(at, known_of(commands, command, free_order));
         }
     }
 }

@@ -1,0 +1,3 @@
+mod Keys
+mod Steps
+pub mod Reading
