@@ -10,6 +10,7 @@ const INITIATORS: usize = 16;
 const MOST_SCRIPT: u64 = 8_388_608;
 const MOST_LINES: usize = 65_536;
 const MOST_COMMANDS: usize = 16_384;
+const MOST_TASKS: usize = 1_024;
 const MOST_CDB: usize = 32;
 const MOST_DATA: usize = 131_072;
 const MOST_DATA_TOGETHER: usize = 134_217_728;
@@ -24,6 +25,7 @@ enum Line {
     Port,
     Map { initiator: u8 },
     Command(Box<Command>),
+    Ask { initiator: u8, function: Function },
     Step { number: u32, blocks: u32 },
     Drain,
     Sync,
@@ -34,6 +36,19 @@ enum Attribute {
     Simple,
     Ordered,
     Head,
+}
+
+/// A task management function; the two that have a tag name the command of the asker.
+#[derive(Clone, Copy, PartialEq)]
+enum Function {
+    AbortTask(u32),
+    AbortTaskSet,
+    ClearTaskSet,
+    LunReset,
+    NexusReset,
+    QueryTask(u32),
+    QueryTaskSet,
+    ClearAca,
 }
 
 struct Command {
@@ -60,6 +75,7 @@ struct Script {
     initiators: HashSet<u8>,
     acts: bool,
     commands: usize,
+    functions: usize,
     data: usize,
     operations: u64,
 }
@@ -150,6 +166,26 @@ fn parse_line(text: &[u8]) -> Option<Line> {
                 out: data.first().map_or(Some(Some(Vec::new())), |text| byte_text(text, MOST_DATA))?,
             }))
         }
+        [b"task", initiator, b"0", b"0", name, ref tag @ ..] if tag.len() <= 1 => {
+            let tag = match tag.first() {
+                Some(tag) => Some(number(tag, 0..=u32::MAX)?),
+                None => None,
+            };
+            Line::Ask {
+                initiator: number(initiator, 0..=15)? as u8,
+                function: match (name, tag) {
+                    (b"abort-task", Some(tag)) => Function::AbortTask(tag),
+                    (b"query-task", Some(tag)) => Function::QueryTask(tag),
+                    (b"abort-task-set", None) => Function::AbortTaskSet,
+                    (b"clear-task-set", None) => Function::ClearTaskSet,
+                    (b"lun-reset", None) => Function::LunReset,
+                    (b"nexus-reset", None) => Function::NexusReset,
+                    (b"query-task-set", None) => Function::QueryTaskSet,
+                    (b"clear-aca", None) => Function::ClearAca,
+                    _ => return None,
+                },
+            }
+        }
         [b"step", b"0", command, blocks] => {
             Line::Step { number: number(command, 0..=u32::MAX)?, blocks: number(blocks, 1..=MOST_STEP)? }
         }
@@ -172,6 +208,7 @@ impl Script {
             Line::Port => !std::mem::replace(&mut self.port, true),
             Line::Map { initiator } => self.port && self.unit.is_some() && self.initiators.insert(*initiator),
             Line::Command(command) => self.initiators.contains(&command.initiator),
+            Line::Ask { initiator, .. } => self.initiators.contains(initiator),
             Line::Step { .. } | Line::Drain => self.unit.is_some(),
             Line::Sync => true,
         }
@@ -185,8 +222,10 @@ impl Script {
             self.data += out.len();
             self.operations += command.op.as_ref().map_or(0, |op| op.operations(out, blocks));
         }
+        self.functions += matches!(line, Line::Ask { .. }) as usize;
         self.lines.len() < MOST_LINES
             && self.commands <= MOST_COMMANDS
+            && self.functions <= MOST_TASKS
             && self.data <= MOST_DATA_TOGETHER
             && self.operations <= MOST_OPERATIONS
     }
@@ -560,6 +599,13 @@ impl Plan {
 
     fn operations(&self) -> usize {
         self.phases.len() * self.blocks
+    }
+
+    /// How many blocks the first so many operations put.
+    fn puts(&self, done: usize) -> usize {
+        let is_put = |phase: &Phase| matches!(phase, Phase::Put | Phase::PutSecondHalf | Phase::PutSame | Phase::Zero);
+        let made = |at: usize| done.saturating_sub(at * self.blocks).min(self.blocks);
+        self.phases.iter().enumerate().filter(|(_, phase)| is_put(phase)).map(|(at, _)| made(at)).sum()
     }
 
     /// The block at a place of a phase, and how many of its range there are from there on.
@@ -992,8 +1038,10 @@ struct Task {
 }
 
 /// The codes of unit attention conditions, in the order in which they are told.
-const ATTENTIONS: [u16; 9] = [0x2900, POWER_ON, 0x2907, MODE_CHANGED, 0x2a03, 0x2a04, 0x2a05, 0x2a06, CLEARED];
+const ATTENTIONS: [u16; 9] = [RESET, POWER_ON, NEXUS_LOSS, MODE_CHANGED, 0x2a03, 0x2a04, 0x2a05, 0x2a06, CLEARED];
+const RESET: u16 = 0x2900;
 const POWER_ON: u16 = 0x2901;
+const NEXUS_LOSS: u16 = 0x2907;
 const MODE_CHANGED: u16 = 0x2a01;
 const CLEARED: u16 = 0x2f00;
 
@@ -1385,6 +1433,56 @@ impl Unit {
         }
     }
 
+    /// A function comes, cuts what it hits and is answered.
+    fn ask(&mut self, line: usize, initiator: u8, function: Function) {
+        self.arrived += 1;
+        let number = self.arrived;
+        writeln!(self.report, "came {number} a {line}\nasked {number}").unwrap();
+        let is_hit = |task: &Task| match function {
+            Function::AbortTask(tag) => task.initiator == initiator && task.tag == tag,
+            Function::AbortTaskSet | Function::NexusReset => task.initiator == initiator,
+            Function::ClearTaskSet | Function::LunReset => true,
+            Function::QueryTask(_) | Function::QueryTaskSet | Function::ClearAca => false,
+        };
+        let mut others = HashSet::new();
+        for task in self.queue.iter().filter(|task| is_hit(task)) {
+            let is_told = self.pages.tells_aborts && task.initiator != initiator;
+            let manner = if is_told { "told" } else { "silent" };
+            let puts = task.plan.puts(task.done);
+            writeln!(self.report, "cut {} {puts} by {number} {manner}", task.number).unwrap();
+            self.free += task.plan.need;
+            if task.initiator != initiator {
+                others.insert(task.initiator);
+            }
+        }
+        self.queue.retain(|task| !is_hit(task));
+        self.close(initiator, function, &others);
+        self.find_blockers();
+        let is_found = self.queue.iter().any(|task| match function {
+            Function::QueryTask(tag) => task.initiator == initiator && task.tag == tag,
+            Function::QueryTaskSet => task.initiator == initiator,
+            _ => false,
+        });
+        let outcome = if is_found { "SUCCEEDED" } else { "COMPLETE" };
+        writeln!(self.report, "closed {number} FUNCTION {outcome}").unwrap();
+    }
+
+    /// What a function changes that cut commands of these other initiators.
+    fn close(&mut self, initiator: u8, function: Function, others: &HashSet<u8>) {
+        match function {
+            Function::ClearTaskSet if !self.pages.tells_aborts => {
+                others.iter().for_each(|other| self.raise(*other, CLEARED));
+            }
+            Function::LunReset => {
+                (0..INITIATORS as u8).for_each(|other| self.raise(other, RESET));
+                self.pages = DEFAULT_PAGES;
+                self.is_started = true;
+            }
+            Function::NexusReset => self.raise(initiator, NEXUS_LOSS),
+            _ => {}
+        }
+    }
+
     fn answer(&mut self, event: &str, number: u32, answer: Answer) {
         write!(self.report, "{event} {number} ").unwrap();
         match answer {
@@ -1452,6 +1550,7 @@ fn play(script: Script) -> Vec<u8> {
         match line {
             Line::Lun { .. } | Line::Port | Line::Map { .. } => {}
             Line::Command(command) => unit.arrive(index + 1, *command),
+            Line::Ask { initiator, function } => unit.ask(index + 1, initiator, function),
             Line::Step { number, blocks } => unit.step(number, blocks as usize),
             Line::Drain | Line::Sync => unit.drain(),
         }

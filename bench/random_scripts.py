@@ -67,6 +67,7 @@ class Maker:
         # how fast what came is done
         self.steps, self.drains = random.choice(((1, 30), (3, 40), (2, 200), (0, 12), (4, 400)))
         self.drains = min(self.drains, 2 * self.depth)
+        self.functions = 1 << 30 if "functions" in without else random.choice((4, 10, 30, 1 << 30))
 
         self.kind = random.choice((1, 3, 5, 6, 7, 8))
         self.host = self.hosts[0]
@@ -255,6 +256,14 @@ class Maker:
         words = f"cmd {self.host} 0 0 {random.randrange(self.tags)} {attribute} {byte_text(bytes(cdb))}"
         return f"{words} {byte_text(data)}" if data else words
 
+    def task(self):
+        host, tag = random.choice(self.hosts), random.randrange(self.tags)
+        self.came += 1
+        name = random.choice((
+            f"abort-task {tag}", f"abort-task {tag}", f"query-task {tag}", "abort-task-set", "clear-task-set",
+            "clear-task-set", "lun-reset", "nexus-reset", "query-task-set", "clear-aca"))
+        return f"task {host} 0 0 {name}"
+
     def step(self):
         number = random.randrange(max(0, self.came - random.choice((3, 10, 100))), self.came + 2)
         return f"step 0 {number} {random.choice((1, 1, 2, 3, 5, 100))}"
@@ -274,7 +283,7 @@ class Maker:
             lines.append("sync")
         most = random.choice((5, 20, 50) if "limits" in self.without else (5, 20, 50, 100, 300))
         while self.came < most:
-            lines.append(self.command())
+            lines.append(self.task() if chance(self.functions) else self.command())
             while random.randrange(1 + self.steps):
                 lines.append(self.step())
             if chance(self.drains):
@@ -300,7 +309,9 @@ def damaged(text):
             b"", b"lun 0 blocks 0", b"lun 0 blocks 65537", b"lun 0 blocks 16", b"port 0 a", b"port 0 b", b"map 0 0 0 0",
             b"lun 0 blocks 16 depth 257 pool 1", b"lun 0 blocks 16 depth 1 pool 4097", b"lun 0 blocks 16 depth 2",
             b"sync 0", b"map 16 0 0 0", b"drain 1", b"drain 0", b"step 0 1 0", b"step 0 1 65537",
-            b"step 0 4294967296 1", b"cmd 0 0 0 1 simple", b"cmd 0 0 0 1 aca 00*6", b"cmd 0 0 0 1 simple 00*33",
+            b"step 0 4294967296 1", b"task 0 0 0 abort-task", b"task 0 0 0 lun-reset 1", b"task 9 0 0 clear-aca",
+            b"task 0 0 0 target-reset", b"task 0 0 0 query-task 4294967296", b"task 0 0 1 lun-reset",
+            b"cmd 0 0 0 1 simple", b"cmd 0 0 0 1 aca 00*6", b"cmd 0 0 0 1 simple 00*33",
             b"cmd 0 0 0 1 simple 00*6 00*131073", b"cmd 0 0 0 1 simple 00*6 00*99999999999999999999",
             b"cmd 15 0 0 01 simple 00*6", b"cmd 0 0 0 1 simple 00*6 00*131072.00", b"cmd 0 0 0 1 simple 00*6 "))
     elif kind == 4:

@@ -2,9 +2,8 @@
 use Rattle.std.specs.Prelude.{◌≡◌, ◌+◌, ℕ, List, [], ◌∷◌, ◌++◌, Option, Some, None}
 use Rattle.ct_word.specs.declared.limit.TheConstants.{MOST_STEP}
 use Rattle.ct_word.specs.declared.names.Node.TheVariants.{A}
-use Rattle.ct_book.specs.declared.work.Command.{Command}
-use Rattle.ct_book.specs.declared.work.Work.TheVariants as work
 use Rattle.ct_book.specs.declared.event.Logged.{Logged}
+use Rattle.ct_book.specs.Journals.{KeptWork}
 use Rattle.ct_plan.specs.Pieces.{faults_at}
 use Rattle.ct_machine.specs.declared.act.Act.{Act}
 use Rattle.ct_machine.specs.declared.act.Act.TheVariants as act
@@ -15,8 +14,8 @@ use Rattle.ct_machine.specs.Runs.{replay}
 use Rattle.ct_pair.specs.Pairs.{PairState}
 use Rattle.ct_script.specs.declared.script.Line.{Line}
 use Rattle.ct_script.specs.declared.script.Word.{Word}
-use Rattle.ct_script.specs.declared.script.Word.TheVariants.{Lun, Port, Map, Cmd, Step, Drain, Sync}
-use Rattle.ct_top.specs.Commands.{command_in}
+use Rattle.ct_script.specs.declared.script.Word.TheVariants.{Lun, Port, Map, Cmd, Task, Step, Drain, Sync}
+use Rattle.ct_top.specs.Commands.{work_sent}
 
 -- how far a play has come: the journal, and how many operations of the medium failed so far
 pub record Point : Type 0 where
@@ -48,12 +47,13 @@ pub data Drains (o : Opening) : Point → Point → Type 0 where
   more : (before after end : Point) → Acted o next before after → Drains o after end → Drains o before end
 
 -- what a line does
-abbrev pub ByCommand : Opening → Option Command → Point → Point → Type 0
-ByCommand o None before after = after ≡ before
-ByCommand o (Some command) before after = Acted o (act.Arrive A (work.Cmd command)) before after
+abbrev pub ByWork : Opening → Option KeptWork → Point → Point → Type 0
+ByWork o None before after = after ≡ before
+ByWork o (Some came) before after = Acted o (act.Arrive A came) before after
 
 abbrev pub ByLine : Opening → ℕ → Word → Point → Point → Type 0
-ByLine o line (Cmd n x tag attr cdb out) before after = ByCommand o (command_in line (Cmd n x tag attr cdb out)) before after
+ByLine o line (Cmd n x tag attr cdb out) before after = ByWork o (work_sent line (Cmd n x tag attr cdb out)) before after
+ByLine o line (Task n x function) before after = ByWork o (work_sent line (Task n x function)) before after
 ByLine o line (Step lun number blocks) before after = Acted o (act.Step number blocks) before after
 ByLine o line (Drain lun) before after = Drains o before after
 ByLine o line Sync before after = Drains o before after

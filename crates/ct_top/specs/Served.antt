@@ -18,7 +18,7 @@ use Rattle.ct_top.specs.declared.command.Command.{Command}
 use Rattle.ct_top.specs.declared.command.Command.TheVariants.{Play}
 use Rattle.ct_top.specs.declared.report.UnitEnd.{UnitEnd}
 use Rattle.ct_script.specs.Rules.{declared_blocks}
-use Rattle.ct_top.specs.Commands.{commands_of, opening_of}
+use Rattle.ct_top.specs.Commands.{works_sent, opening_of}
 use Rattle.ct_top.specs.Played.{IsPlayed}
 use Rattle.ct_top.specs.Report.{report_text}
 
@@ -35,10 +35,11 @@ pub record WasRead (old new : Option (List ℕ)) (says : Result (List Line) Scri
   pub meaning : script_of bytes ≡ says
 
 -- a unit with so many blocks was played: its journal is what the machine writes for the acts of the lines, a run, and
--- lawful, to which each command of the lines came in order, with one entry for each work, and all quiet at its end; no
+-- lawful, to which each work of the lines came in order, with one entry for each work, and all quiet at its end; no
 -- operation of its disk failed; its disk has the blocks to which the journal leads. Where QUEUE ALGORITHM MODIFIER said
 -- all along that reordering is restricted, the journal is legal, and the blocks are those behind its commands executed
--- one at a time, in the order in which they ended
+-- one at a time, in the order in which they ended, of which a command that was cut left the blocks that it had put, and its
+-- functions
 pub record IsEnd (blocks : ℕ) (lines : List Line) (end : UnitEnd) : Type 0 where
   pub lun : end.lun ≡ record { 0 = 0 }
   pub played : IsPlayed (opening_of blocks lines) lines 0 (record { journal = end.book.journal; faults = 0 })
@@ -46,7 +47,7 @@ pub record IsEnd (blocks : ℕ) (lines : List Line) (end : UnitEnd) : Type 0 whe
   pub lawful : IsLawful (opening_of blocks lines) end.book.journal
   pub legal : IsRestricted (opening_of blocks lines) end.book.journal →
       IsLegal (opening_of blocks lines) end.book.journal
-  pub arrived : works_in end.book.journal ≡ commands_of lines
+  pub arrived : works_in end.book.journal ≡ works_sent lines
   pub quiet : IsQuiet (replay (opening_of blocks lines) end.book.journal)
   pub answered : (number : ℕ) → is_some (work_in number end.book.journal) ≡ true →
       has (is_entry number) end.book.journal ≡ true

@@ -7,7 +7,7 @@ ghost use Rattle.ct_machine.specs.Runs.{replay, IsRun};
 ghost use Rattle.ct_pair.specs.Pairs.{medium_cuts};
 ghost use Rattle.ct_script.specs.Rules.{IsInRange, declared_blocks};
 ghost use Rattle.ct_script.specs.Lines.{IsWithin};
-ghost use Rattle.ct_top.specs.Commands.{commands_of, pieces_in, room_of, declared_sizes, opening_of};
+ghost use Rattle.ct_top.specs.Commands.{works_sent, pieces_in, room_of, declared_sizes, opening_of};
 ghost use Rattle.ct_top.specs.Played.{point_of, Drains, ByLine, ByLines, IsPlayed};
 
 use ct_book::{Cmd, Work};
@@ -19,6 +19,7 @@ use ct_law::{
 use ct_medium::Backend;
 use ct_pair::{Act, Answer, End, Pair};
 use ct_script::{Line, Script, Sizes, Word};
+use ct_tmf::Ask;
 use ct_word::limit::{DEPTH, MOST_STEP, POOL};
 use ct_word::{CmdNo, Ha, LunNo, NoMemory, Node, Room};
 use std::alloc::Global;
@@ -37,7 +38,7 @@ pub fn play_on<B: Backend>(alloc: Global, script: Script, medium: B) -> Result<E
     ensures played { IfOk result (λ end. IsPlayed (opening_of (length (B.blocks medium)) script) script (B.faults medium) (record { journal = end.book.journal; faults = B.faults end.medium })) }
     ensures cuts { IfOk result (λ end. medium_cuts end.book.journal ≡ B.faults end.medium) }
     ensures run { IfOk result (λ end. IsRun (opening_of (length (B.blocks medium)) script) end.book.journal) }
-    ensures arrived { IfOk result (λ end. works_in end.book.journal ≡ commands_of script) }
+    ensures arrived { IfOk result (λ end. works_in end.book.journal ≡ works_sent script) }
     ensures disk { IfOk result (λ end. B.blocks end.medium ≡ (replay (opening_of (length (B.blocks medium)) script) end.book.journal).blocks) }
 {
     arrivals_alone_take_room();
@@ -51,23 +52,26 @@ pub fn play_on<B: Backend>(alloc: Global, script: Script, medium: B) -> Result<E
     Ok(pair.close())
 }
 
-// Exactly the room that the commands of these lines take, on a disk of so many blocks.
+// Exactly the room that the works of these lines take, on a disk of so many blocks.
 fn room_of(lines: &[Line], blocks: u32) -> Room
     requires within { IsWithin lines.now }
     requires declared { declared_blocks lines.now ≡ Some blocks }
     ensures { result ≡ room_of blocks lines.now }
 {
     let mut commands = 0;
+    let mut functions = 0;
     let mut pieces = 0u64;
     for line in lines {
-        if let Word::Cmd { .. } = &line.word {
-            commands += 1;
+        match &line.word {
+            Word::Cmd { .. } => commands += 1,
+            Word::Task { .. } => functions += 1,
+            _ => {}
         }
         pieces += pieces_in(line, blocks);
     }
     Room {
         commands,
-        functions: 0,
+        functions,
         pieces: pieces as u32,
     }
 }
@@ -87,7 +91,7 @@ fn sizes_of(lines: &[Line]) -> Sizes
     }
 }
 
-// How many block operations a line's command plans.
+// How many block operations a line's work plans.
 #[tactic(auto, unfolding(ct_exec::specs::Executions::plan_in, ct_book::specs::Works::profile_in))]
 fn pieces_in(line: &Line, blocks: u32) -> u64
     ensures { result ≡ pieces_in blocks line.now }
@@ -145,6 +149,14 @@ fn play_line<B: Backend>(alloc: Global, pair: &mut Pair<B>, line: Line) -> Resul
         } => {
             let command = Cmd::new(alloc, no, n, VISIBLE, tag, attr, cdb, out)?;
             pair.act(Act::Arrive(Node::A, Work::Cmd(command)));
+        }
+        Word::Task { n, function, .. } => {
+            let ask = Ask {
+                line: no,
+                nexus: n,
+                function,
+            };
+            pair.act(Act::Arrive(Node::A, Work::Ask(ask)));
         }
         Word::Step { no, blocks, .. } => {
             pair.act(Act::Step(CmdNo::new(no), blocks));
