@@ -38,7 +38,7 @@ pub record LawfulAt (o : Opening) (before : List Logged) (l : Logged) : Type 0 w
   pub once : IsFirstEntry before l
   pub typed : IsOfItsKind before l.event
   pub orderly : BeginsOrderly o before l.event
-  pub reorders : AtEnd (KeepsOrder o before) l.event
+  pub reorders : KeepsOrder o before l.event
   pub plan : MakesPlanAt o before l.event
   pub prefix : RecordsPrefixAt o before l.event
   pub cells : AtEnd (RepliesByCells o before l.reply) l.event

@@ -51,8 +51,8 @@ pub fn runs_are_orderly()
     ensures { (opening : Opening) (journal : List Logged) → IsRun opening journal → IsOrderly opening journal }
 {}
 
-/// A command changes QUEUE ALGORITHM MODIFIER (SPC-4, Control mode page) only where no command has begun that isn't
-/// over.
+/// QUEUE ALGORITHM MODIFIER (SPC-4, Control mode page) changes, by a command or a reset, only where no command has
+/// begun that isn't over.
 pub fn runs_reorder_at_rest()
     ensures { (opening : Opening) (journal : List Logged) → IsRun opening journal → ReordersAtRest opening journal }
 {}

@@ -29,7 +29,7 @@ use Rattle.ct_exec.specs.Closing.{closed_control, closing_control}
 use Rattle.ct_exec.specs.Executions.{plan_in}
 use Rattle.ct_machine.specs.States.{Stage, Waiting, Here, Task, Open, Arrival, State, is_here, done_at, arrival_of, task_of, function_of}
 use Rattle.ct_machine.specs.Events.{after, after_event, after_events}
-use Rattle.ct_machine.specs.Events.Sends.{stop, answered, came_at_b}
+use Rattle.ct_machine.specs.Events.Sends.{stop, answered, came_remote}
 use Rattle.ct_machine.specs.Events.Ends.{leaves, noted, cut_at}
 use Rattle.ct_machine.specs.Events.Functions.{is_hit, is_awaited, awaited_by, is_told, stops_by, others_cut, without_function, closed}
 use Rattle.ct_machine.specs.Acts.Turns.{Turn, nothing, says, followed}
@@ -288,7 +288,7 @@ works_same (came ∷ works) = ap (λ (rest : List KeptWork). came ∷ rest) (wor
 function_found : (number : ℕ) (ask : Ask) (cut : List ℕ) → function_of number (open_of number ask cut ∷ []) ≡ Some (open_of number ask cut)
 function_found number ask cut = rw (equal_number number) refl
 
-response_here : (number : ℕ) (s : State) → came_at_b (arrival_of number s) ≡ false → answered kind.Response number s ≡ s
+response_here : (number : ℕ) (s : State) → came_remote (arrival_of number s) ≡ false → answered kind.Response number s ≡ s
 response_here number s here = rw here refl
 
 -- the control changes by the nexuses that the function's entry tells

@@ -41,7 +41,7 @@ turned_so P o s journal n reply h u new within cause other closed = record {
       once = λ m k. subst (λ i. has (is_entry i) journal ≡ false) (eqb-true n m k) u.entry;
       typed = record { work = (cause.0, cause.1); by = tt; closed = tt };
       orderly = tt;
-      reorders = tt;
+      reorders = λ a entered began left. refl;
       plan = tt;
       prefix = tt;
       cells = tt;

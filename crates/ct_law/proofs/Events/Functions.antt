@@ -10,9 +10,10 @@ use Rattle.ct_book.specs.declared.work.Work.TheVariants as work
 use Rattle.ct_book.specs.declared.event.Event.TheVariants as event
 use Rattle.ct_book.specs.declared.event.Logged.{Logged}
 use Rattle.ct_book.specs.Journals.{numbered, works_in}
-use Rattle.ct_exec.specs.Controls.{ControlState, Disk}
+use Rattle.ct_exec.specs.Controls.{ControlState, Disk, is_unrestricted}
 use Rattle.ct_machine.specs.declared.act.Opening.{Opening}
-use Rattle.ct_machine.specs.States.{Task, Stage, Waiting, Here, Granted, There, Over, Open, Arrival, State, is_waiting}
+use Rattle.ct_machine.specs.States.{Task, Stage, Waiting, Here, Granted, There, Over, Open, Arrival, State}
+use Rattle.ct_machine.specs.States.{is_waiting, has_begun}
 use Rattle.ct_machine.specs.Events.Functions.{works_of}
 use Rattle.ct_machine.specs.Serial.{serial_disk}
 use Rattle.ct_machine.specs.Laws.Journals.{has, is_entry, is_begin, is_enter, is_asked, comes_first}
@@ -39,6 +40,7 @@ use Rattle.ct_machine.specs.Events.Sends.{stop}
 use Rattle.ct_machine.specs.Acts.Functions.{is_sought, outcome_of, numbers_of}
 use Rattle.ct_machine.specs.Serial.{function_done}
 use Rattle.ct_machine.specs.Laws.Prefix.{ClosesBehindAll}
+use Rattle.ct_machine.specs.Laws.Reorders.{KeepsOrder}
 use Rattle.ct_machine.specs.Laws.Journals.{IsFunctionOf}
 use Rattle.ct_machine.specs.Laws.Kinds.{is_rejected}
 use Rattle.ct_law.proofs.Rows.Laws.{Laws}
@@ -47,6 +49,7 @@ use Rattle.ct_law.proofs.Journals.Journal.{first_has, cut_more}
 use Rattle.ct_law.proofs.Journals.Growing.{numbered-map, numbered_back}
 use Rattle.ct_law.proofs.Frame.Opens.{IsIn, is_at_b, opens_opens, opens_closes, has_without_function, opens_less}
 use Rattle.ct_law.proofs.Events.Steps.{rules_same, holds_same}
+use Rattle.ct_law.proofs.Events.Overs.{still_active}
 
 -- an event of a function that is none of the task set
 
@@ -76,7 +79,7 @@ rejected_so P o s journal n node ask h u new within came = record {
       once = λ m k. subst (λ i. has (is_entry i) journal ≡ false) (eqb-true n m k) u.entry;
       typed = record { work = (ask, function_in P o s journal n node ask h.frame came); by = tt; closed = u.asking };
       orderly = tt;
-      reorders = tt;
+      reorders = λ b entered began left. refl;
       plan = tt;
       prefix = λ a m c f g i j. absurd (both_ways (has (is_asked n) journal) u.asking j);
       cells = tt;
@@ -122,7 +125,7 @@ closes_so P laws o s journal p idle h hp none = record {
             (ap not (unrejected (list_any (is_sought p.ask) s.tasks)));
       };
       orderly = tt;
-      reorders = tt;
+      reorders = keeps;
       plan = tt;
       prefix = behind;
       cells = tt;
@@ -191,6 +194,24 @@ closes_so P laws o s journal p idle h hp none = record {
 
     nothing_in : {Q : Type 0} (m f : ℕ) → IsIn m p.awaits ⊎ P f m → Q
     nothing_in m f k = absurd (⊎_elim (λ (i : IsIn m p.awaits). subst (IsIn m) none i) (λ (i : P f m). idle f m i) k)
+
+    -- what has begun and isn't over isn't hit, and so the modifier stays
+    keeps : KeepsOrder o journal (event.Closed p.no (outcome_of p.ask s))
+    keeps n entered began left =
+        let live = h.frame.books.live n entered left in
+        let y : Task = live.0 in
+        let alive : is_over y.stage ≡ false =
+        sym (h.frame.books.entry y live.1) ∙ ap (λ m. has (is_entry m) journal) live.2 ∙ left in
+        let begun : has_begun y.stage ≡ true =
+        sym (h.frame.books.begin y live.1 alive) ∙ ap (λ m. has (is_begin m) journal) live.2 ∙ began in
+        let same : is_unrestricted now ≡ is_unrestricted s.control =
+        ⊎_elim
+        (λ (i : is_hit p.ask y ≡ true).
+        nothing_in y.no p.no (h.frame.opens.awaits p y hp live.1 (still_active y.stage alive begun) i))
+        (λ (i : is_hit p.ask y ≡ false). laws.spared_order p.ask (others_cut p s) s.control y.command i)
+        (cases_Bool (is_hit p.ask y)) in
+        ap (λ (k : Disk). is_unrestricted k.control) (sym (serial-more o journal e) ∙ next) ∙ same
+        ∙ ap is_unrestricted h.rules.control
 
     behind : ClosesBehindAll journal p.no
     behind ask m c w v first asked hit =
@@ -310,7 +331,7 @@ asked_so P o s journal n node ask idle h u new within came = record {
           once = λ m k. absurd (cc);
           typed = record { work = (ask, function_in P o s journal n node ask h.frame came); by = tt; closed = tt };
           orderly = tt;
-          reorders = tt;
+          reorders = λ b entered began left. refl;
           plan = tt;
           prefix = tt;
           cells = tt;

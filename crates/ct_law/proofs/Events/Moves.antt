@@ -201,7 +201,7 @@ begun_so P laws o s journal x t idle h hx st ready none allowed moves = record {
           (cc);
       typed = record { work = (x.command, known); by = tt; closed = tt };
       orderly = λ none. b;
-      reorders = tt;
+      reorders = λ a entered began left. refl;
       plan = tt;
       prefix = tt;
       cells = tt;
@@ -213,7 +213,7 @@ begun_so P laws o s journal x t idle h hx st ready none allowed moves = record {
           (cc);
       typed = record { work = (x.command, known); by = tt; closed = tt };
       orderly = λ none. b;
-      reorders = tt;
+      reorders = λ a entered began left. refl;
       plan = tt;
       prefix = tt;
       cells = tt;
@@ -243,7 +243,7 @@ moves_so P o s journal x count done got h hx at = record {
         once = λ m k. absurd (cc);
         typed = record { work = (c, known_in P o s journal x h.frame hx); by = tt; closed = tt };
         orderly = tt;
-        reorders = tt;
+        reorders = λ a entered began left. refl;
         plan = (h.cells.gained x hx alive).difference;
         prefix = unended;
         cells = tt;

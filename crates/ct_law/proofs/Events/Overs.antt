@@ -13,7 +13,7 @@ use Rattle.ct_book.specs.declared.event.Event.TheVariants as event
 use Rattle.ct_book.specs.declared.event.Why.{Why}
 use Rattle.ct_book.specs.declared.event.Why.TheVariants.{By, Medium}
 use Rattle.ct_book.specs.declared.event.Logged.{Logged}
-use Rattle.ct_book.specs.Journals.{numbered, works_in}
+use Rattle.ct_book.specs.Journals.{KeptWork, numbered, works_in}
 use Rattle.ct_book.specs.Histories.{cut_at}
 use Rattle.ct_exec.specs.Controls.{Disk, is_unrestricted}
 use Rattle.ct_machine.specs.declared.act.Opening.{Opening}
@@ -236,7 +236,7 @@ differed_so P laws o s journal x count done got offset h hx at differs =
         (subst (λ q. Holds o.blocks (execute d x.command).disk p.cells.blocks q) same k.0, k.1)
 
 -- what has begun and isn't over is active
-still_active : (stage : Stage) → is_over stage ≡ false → has_begun stage ≡ true → is_active stage ≡ true
+pub still_active : (stage : Stage) → is_over stage ≡ false → has_begun stage ≡ true → is_active stage ≡ true
 still_active Waiting alive begun = absurd (cc)
 still_active (Here done got) alive begun = refl
 still_active Granted alive begun = refl
@@ -317,6 +317,15 @@ once_ends P laws o s journal x h hx st ready is_once =
     as_executed : RepliesAsExecuted o journal x.no (Some a.reply)
     as_executed = (x.command, known, ap Some same.reply)
 
+-- a cut leaves the modifier
+cut_keeps : (o : Opening) (journal : List Logged) (puts : ℕ) (came : Option KeptWork) (n : ℕ) →
+    has (is_enter n) journal ≡ true → has (is_begin n) journal ≡ true → has (is_entry n) journal ≡ false →
+    is_unrestricted (command_cut puts came (serial_disk o journal)).control
+    ≡ is_unrestricted (serial_disk o journal).control
+cut_keeps o journal puts None n entered began left = refl
+cut_keeps o journal puts (Some (work.Cmd command)) n entered began left = refl
+cut_keeps o journal puts (Some (work.Ask ask)) n entered began left = refl
+
 -- the disk after a cut
 cut_is : (P : ℕ → ℕ → Type 0) (o : Opening) (s : State) (journal : List Logged) (x : Task) (puts : ℕ) →
     Frame P o s journal → Has s.tasks x → command_cut puts (numbered x.no (works_in journal)) (serial_disk o journal)
@@ -370,7 +379,7 @@ medium_so P o s journal x done got operation h hx at failed =
       once = once_entry x.no journal (unended P o s journal x h.frame hx b.0);
       typed = record { work = (x.command, known_in P o s journal x h.frame hx); by = tt; closed = tt };
       orderly = tt;
-      reorders = tt;
+      reorders = cut_keeps o journal (puts_at o.blocks x) (numbered x.no (works_in journal));
       plan = (h.cells.gained x hx b.0).difference;
       prefix = (prefix_of P o s journal x h.frame hx b.0, tt);
       cells = tt;
@@ -411,7 +420,7 @@ by_so P o s journal x f node ask told_so h hx alive came hit asked unclosed =
         closed = tt;
       };
       orderly = tt;
-      reorders = tt;
+      reorders = cut_keeps o journal (puts_at o.blocks x) (numbered x.no (works_in journal));
       plan = (h.cells.gained x hx alive).difference;
       prefix = (prefix_of P o s journal x h.frame hx alive, λ a w. (asked, unclosed));
       cells = tt;
@@ -465,7 +474,7 @@ cleared_so P o s journal x n c told_so h hx waits by entered gone =
       once = once_entry x.no journal (unended P o s journal x h.frame hx alive);
       typed = record { work = (x.command, known_in P o s journal x h.frame hx); by = ap is_some by; closed = tt };
       orderly = tt;
-      reorders = tt;
+      reorders = cut_keeps o journal (puts_at o.blocks x) (numbered x.no (works_in journal));
       plan = (h.cells.gained x hx alive).difference;
       prefix = (prefix_of P o s journal x h.frame hx alive, λ a w. absurd (no_function a w));
       cells = tt;

@@ -92,7 +92,7 @@ came_so P o s journal n node w room to_a next h comes = record {
           once = λ m k. absurd (cc);
           typed = record { work = tt; by = tt; closed = tt };
           orderly = tt;
-          reorders = tt;
+          reorders = λ a entered began left. refl;
           plan = tt;
           prefix = tt;
           cells = tt;
@@ -137,7 +137,7 @@ enter_so P o s journal n node c h u new at free = record {
           once = λ m k. absurd (cc);
           typed = record { work = (c, known); by = tt; closed = tt };
           orderly = tt;
-          reorders = tt;
+          reorders = λ a entered began left. refl;
           plan = tt;
           prefix = tt;
           cells = tt;

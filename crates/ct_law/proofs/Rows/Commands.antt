@@ -553,6 +553,12 @@ spared_law ask others control n a beside none =
     allows_unrefused control (closed_control ask.function ask.nexus others control) n a
     (closing_allows ask.nexus a ask.function others control beside) none
 
+spared_order_law : (ask : Ask) (others : List Bool) (control : ControlState) (a : Command) →
+    hits ask a.nexus a.tag ≡ false → is_unrestricted (closing_control ask others control) ≡ is_unrestricted control
+unfolding hits closing_control is_unrestricted
+spared_order_law ask others control a beside =
+    ap (λ (pages : ModePages). pages.free_order) (closing_allows ask.nexus a ask.function others control beside).pages
+
 pub laws : Laws
 laws = record {
   apart = apart_law;
@@ -562,6 +568,7 @@ laws = record {
   sizes = sizes_law;
   skipped = skip_law;
   spared = spared_law;
+  spared_order = spared_order_law;
   unclearing = unclearing_law;
   moving_clears = moving_law;
   reorders = reorders_law;

@@ -72,6 +72,10 @@ pub record Laws : Type 0 where
   pub spared : (ask : Ask) (others : List Bool) (control : ControlState) (n : ℕ) (a : Command) →
       hits ask a.nexus a.tag ≡ false → refusal_of control n a ≡ None →
       refusal_of (closing_control ask others control) n a ≡ None
+  -- nor does that function change the modifier
+  pub spared_order : (ask : Ask) (others : List Bool) (control : ControlState) (a : Command) →
+      hits ask a.nexus a.tag ≡ false →
+      is_unrestricted (closing_control ask others control) ≡ is_unrestricted control
   -- under either modifier what doesn't conflict with a command that moves blocks clears no nexus, nor does that command
   pub unclearing : (unrestricted : Bool) (n : ℕ) (a b : Command) (x y : Bool) (disk : Disk) (nexus : Nexus) →
       conflicts unrestricted (held_by n a x) (held_by n b y) ≡ false → has_operations (plan_in n a) ≡ true →

@@ -186,7 +186,7 @@ delivered_so P o s journal node k n h = record {
           once = λ m z. absurd (cc);
           typed = record { work = tt; by = tt; closed = tt };
           orderly = tt;
-          reorders = tt;
+          reorders = λ a entered began left. refl;
           plan = tt;
           prefix = tt;
           cells = tt;
