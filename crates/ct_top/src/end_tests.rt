@@ -1,12 +1,12 @@
 use crate::served::declared_blocks;
 use crate::{Served, UnitEnd, play_on, target_one};
-use ct_book::Book;
+use ct_book::{Book, Entry, Why};
 use ct_io::{MemSink, MemSource};
 use ct_medium::{Backend, FaultyRam};
 use ct_pair::End;
 use ct_script::{parse, scripts_are_read_line_by_line};
 use ct_sense::Status;
-use ct_word::{CmdNo, LunNo};
+use ct_word::{CmdNo, LunNo, NexusSet};
 use std::alloc::Global;
 use std::process::Abort;
 use std::test::Fail;
@@ -115,10 +115,10 @@ fn a_read_of_the_medium_fails(rt: HostRuntime) -> Result<(), Fail> {
     Ok(())
 }
 
-// What is left of the script where all goes well.
-fn left_behind(alloc: Global) -> Result<Vec<UnitEnd>, Fail> {
+// What is left of a script where all goes well.
+fn left_behind(alloc: Global, script: &str) -> Result<Vec<UnitEnd>, Fail> {
     let words = vec![in alloc; String::from_str(alloc, "play")?]?;
-    let script = Vec::from_slice(alloc, SCRIPT.as_bytes())?;
+    let script = Vec::from_slice(alloc, script.as_bytes())?;
     let mut source = MemSource::new(script, 4096, Vec::new(alloc));
     let mut sink = MemSink::new(4096, Vec::new(alloc));
     sink.reserve(alloc, 4096)?;
@@ -128,7 +128,7 @@ fn left_behind(alloc: Global) -> Result<Vec<UnitEnd>, Fail> {
 
 #[test]
 fn leaves_what_it_played(rt: HostRuntime) -> Result<(), Fail> {
-    let mut ends = left_behind(rt.alloc())?;
+    let mut ends = left_behind(rt.alloc(), SCRIPT)?;
     let left = ends.len();
     assert_eq!(rt; left, 1);
     let Some(
@@ -156,6 +156,30 @@ fn leaves_what_it_played(rt: HostRuntime) -> Result<(), Fail> {
         ),
         (0xa5, 0xa6, 0)
     );
+    Ok(())
+}
+
+// A write of 8 blocks is aborted behind its fifth.
+const ABORTED: &str =
+    "lun 0 blocks 512\nport 0 a\nmap 0 0 0 0\nmap 1 0 0 0\ncmd 0 0 0 1 simple 000000000000\n\
+    cmd 1 0 0 1 simple 000000000000\nsync\ncmd 0 0 0 1 simple 2a000000000000000800 33*4096\n\
+    step 0 3 5\ntask 0 0 0 abort-task 1\ncmd 0 0 0 2 simple 28000000000000000800\n";
+
+#[test]
+fn a_history_has_a_function_and_its_cut(rt: HostRuntime) -> Result<(), Fail> {
+    let alloc = rt.alloc();
+    let no = CmdNo::new;
+    for UnitEnd { book, .. } in left_behind(alloc, ABORTED)? {
+        let history = book.history(alloc)?;
+        let wanted = [
+            Entry::Ran(no(1)),
+            Entry::Ran(no(2)),
+            Entry::Cut(no(3), 5, Why::By(no(4))),
+            Entry::Func(no(4), NexusSet::open()),
+            Entry::Ran(no(5)),
+        ];
+        assert_eq!(rt; history.as_slice(), wanted.as_slice());
+    }
     Ok(())
 }
 

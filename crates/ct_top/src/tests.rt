@@ -123,7 +123,7 @@ fn refuses_other_words(rt: HostRuntime) -> Result<(), Fail> {
 
 #[test]
 fn tells_the_first_fault_of_form(rt: HostRuntime) -> Result<(), Fail> {
-    let lines: [&[u8]; 58] = [
+    let lines: [&[u8]; 63] = [
         b"",
         b" ",
         b"# a comment",
@@ -181,7 +181,12 @@ fn tells_the_first_fault_of_form(rt: HostRuntime) -> Result<(), Fail> {
         b"drain 0 0",
         b"sync 0",
         b"deliver 0 a",
-        b"task 0 0 0 lun-reset",
+        b"task 0 0 0",
+        b"task 0 0 0 target-reset",
+        b"task 0 0 0 abort-task",
+        b"task 0 0 0 lun-reset 1",
+        b"task 0 0 1 lun-reset",
+        b"task 0 0 0 query-task 4294967296",
     ];
     for line in lines {
         let mut script = Vec::from_slice(rt.alloc(), b"port 0 a\n")?;
@@ -219,6 +224,10 @@ fn tells_the_first_fault_of_name(rt: HostRuntime) -> Result<(), Fail> {
         (
             "lun 0 blocks 5\nport 0 a\nmap 1 0 0 0\ncmd 1 0 0 1 simple 28000000000000000100\nmap 2 0 0 0\n",
             5,
+        ),
+        (
+            "lun 0 blocks 5\nport 0 a\nmap 1 0 0 0\ntask 0 0 0 lun-reset\n",
+            4,
         ),
         ("step 0 1 1\n", 1),
         ("drain 0\nlun 0 blocks 5\n", 1),
@@ -264,6 +273,19 @@ fn tells_the_first_fault_of_limit(rt: HostRuntime) -> Result<(), Fail> {
         judge(alloc, script.as_slice())?,
         fault(65_537, What::Limit)
     );
+    Ok(())
+}
+
+#[test]
+fn counts_functions(rt: HostRuntime) -> Result<(), Fail> {
+    let alloc = rt.alloc();
+    let mut script = Vec::from_slice(alloc, HEAD.as_bytes())?;
+    for _ in 0..1_024 {
+        script.extend_from_slice(b"task 1 0 0 query-task-set\n")?;
+    }
+    assert_eq!(rt; judge(alloc, script.as_slice())?, Exit::Done);
+    script.extend_from_slice(b"task 1 0 0 query-task-set\n")?;
+    assert_eq!(rt; judge(alloc, script.as_slice())?, fault(1_029, What::Limit));
     Ok(())
 }
 
