@@ -13,7 +13,7 @@ use Rattle.ct_matrix.specs.Queues.{command_of, without, with_begun, waits_yet, b
 use Rattle.ct_matrix.proofs.Places.{insert_first, first_within}
 use Rattle.ct_queue.specs.Sound.{IsSingle, IsSound, place_of, waiting_from}
 
-same_number : (a b : ℕ) → (a == b) ≡ true → a ≡ b
+pub same_number : (a b : ℕ) → (a == b) ≡ true → a ≡ b
 same_number a b h = grind (arith, nat_tests)
 
 pub place_within : (number : ℕ) (commands : List HeldCommand) → IsSome (command_of number commands) → place_of number commands < length commands

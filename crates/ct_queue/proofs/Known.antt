@@ -1,6 +1,6 @@
 -- For which command each waits, while it is found anew: what a change doesn't touch is still right.
 use Rattle.std.proofs.Common.{◌≡◌, ℕ, zero, suc, ◌+◌, ◌<◌, List, [], ◌∷◌, ◌++◌, Bool, true, false, not, ◌&&◌, ◌||◌, ◌==◌, inl, inr, Option, Some, None, IsNone, IsSome, IsSomeAnd, IfSome, is_none, is_some, length, map, option_map, slice_get, slice_set, insert, remove, if◌then◌else◌, refl, sym, ap, ◌∙◌, subst, arith}
-use Rattle.std.specs.List.{find, position_or_len}
+use Rattle.std.specs.List.{find, list_any, position_or_len}
 use Rattle.std.specs.Option.{option_map_or}
 use Rattle.std.proofs.lemmas.Bool.{cases_Bool, false≢true}
 use Rattle.std.proofs.lemmas.List.{map-append, length-map}
@@ -8,6 +8,7 @@ use Rattle.std.proofs.lemmas.Option.{slice_get-map}
 use Rattle.ct_matrix.proofs.Blocking.{when-true, when-false}
 use Rattle.ct_matrix.proofs.Places.{insert_first}
 use Rattle.std.proofs.lemmas.Bool.Decides.{nat_tests}
+use Rattle.ct_cdb.specs.declared.op.Attr2.TheVariants.{Head}
 use Rattle.ct_matrix.specs.declared.held.Held.{Held}
 use Rattle.ct_matrix.specs.declared.held.HeldCommand.{HeldCommand}
 use Rattle.ct_matrix.specs.Conflicts.{has_to_wait, skips, conflicts, is_head, is_ordered}
@@ -15,9 +16,9 @@ use Rattle.ct_matrix.specs.Queues.{TaskSet, blocker_of, is_ready, number_of, com
 use Rattle.ct_queue.specs.declared.known_command.KnownCommand.{KnownCommand}
 use Rattle.ct_queue.specs.declared.known_command.Change.{Change}
 use Rattle.ct_queue.specs.declared.known_command.Change.TheVariants as change
-use Rattle.ct_queue.proofs.Commands.{set-place, place_item, remove-place, other_than_absent, turned, before-begun, before-waits, absent_behind, absent_begun, place-here, place-other}
+use Rattle.ct_queue.proofs.Commands.{same_number, set-place, place_item, remove-place, other_than_absent, turned, before-begun, before-waits, absent_behind, absent_begun, place-here, place-other}
 use Rattle.ct_queue.specs.Sound.{IsSingle, place_of, waiting_from}
-use Rattle.ct_queue.specs.KnownCommands.{known_in, touches, is_touched, IsRight, waits_in, is_ready_in, has_begun_in, has_number, number_in}
+use Rattle.ct_queue.specs.KnownCommands.{is_blocked_by, may_touch, known_in, touches, is_touched, IsRight, waits_in, is_ready_in, has_begun_in, has_number, number_in}
 
 -- the first so many are those among all, the others as they were
 abbrev pub known_up_to : ℕ → Bool → List HeldCommand → List HeldCommand → List KnownCommand → List KnownCommand
@@ -76,6 +77,24 @@ known_kept zero what u all (c ∷ cs) (k ∷ ks) command it right at has untouch
     let it_is : k ≡ it = cc in
     ap (λ (first : KnownCommand). first ∷ ks) (right.0 (rw (command_is, it_is) untouched))
 known_kept (suc n) what u all (c ∷ cs) (k ∷ ks) command it right at has untouched = ap (λ (rest : List KnownCommand). known_in u all c ∷ rest) (known_kept n what u all cs ks command it right.1 at has untouched)
+
+-- where what is kept can't be touched, its command isn't
+unmay : (what : Change) (u begun : Bool) (c : HeldCommand) (kept : KnownCommand) → may_touch what kept ≡ false → (not begun && touches what u c kept) ≡ false
+unmay change.Order u begun c kept un = absurd (false≢true (sym un))
+unmay (change.Entered entered) u begun c kept un = absurd (false≢true (sym un))
+unmay (change.Begun new) u true c kept un = refl
+unmay (change.Begun new) u false c kept un = rw un refl
+unmay (change.Left left) u true c kept un = refl
+unmay (change.Left left) u false c kept un = un
+
+pub known_passed : (n : ℕ) (what : Change) (u : Bool) (all commands : List HeldCommand) (kept : List KnownCommand) (it : KnownCommand) → IsRight what u all commands kept
+    → n < length commands → slice_get kept n ≡ Some it → may_touch what it ≡ false → known_up_to n u all commands kept ≡ known_up_to (suc n) u all commands kept
+known_passed n what u all [] kept it right within has un = absurd (omega (arith, within))
+known_passed n what u all (c ∷ cs) [] it right within has un = absurd right
+known_passed zero what u all (c ∷ cs) (k ∷ ks) it right within has un =
+    let it_is : k ≡ it = cc in
+    ap (λ (first : KnownCommand). first ∷ ks) (right.0 (subst (λ (kept : KnownCommand). is_touched what u c kept ≡ false) (sym it_is) (unmay what u c.held.begun c it un)))
+known_passed (suc n) what u all (c ∷ cs) (k ∷ ks) it right within has un = ap (λ (rest : List KnownCommand). known_in u all c ∷ rest) (known_passed n what u all cs ks it right.1 (omega (arith, within)) has un)
 
 pub known_at : (n : ℕ) (u : Bool) (all commands : List HeldCommand) (kept : List KnownCommand) → slice_get (known_up_to n u all commands kept) n ≡ slice_get kept n
 known_at zero u all cs ks = refl
@@ -154,6 +173,29 @@ without-stays leaving c cs stays = when-false (c.no == leaving) (without leaving
 
 without-leaves : (leaving : ℕ) (c : HeldCommand) (cs : List HeldCommand) → (c.no == leaving) ≡ true → without leaving (c ∷ cs) ≡ without leaving cs
 without-leaves leaving c cs leaves = when-true (c.no == leaving) (without leaving cs) (c ∷ without leaving cs) leaves
+
+-- a HEAD OF QUEUE command waits for none where none has begun
+head_free : (skip ahead begun conflict rest : Bool) → begun ≡ false → (if skip then false else if true || not ahead then begun && conflict else rest) ≡ false
+head_free true ahead begun conflict rest h = refl
+head_free false ahead true conflict rest h = absurd (false≢true (sym h))
+head_free false ahead false conflict rest h = refl
+
+head_waits_not : (u ahead : Bool) (a b : Held) → b.attr ≡ Head → a.begun ≡ false → has_to_wait u ahead a b ≡ false
+unfolding skips conflicts
+head_waits_not u ahead a b head waits = rw head (head_free (skips a b) ahead a.begun (conflicts u a b) (is_ordered b.attr || is_ordered a.attr || is_head a.attr || conflicts u a b) waits)
+
+none_or : (a b : Bool) → (a || b) ≡ false → (a ≡ false) × (b ≡ false)
+none_or true b h = absurd (false≢true (sym h))
+none_or false b h = (refl, h)
+
+pub head_waits_for_none : (u a : Bool) (w : HeldCommand) (cs : List HeldCommand) → w.held.attr ≡ Head → list_any (λ (c : HeldCommand). c.held.begun) cs ≡ false → first_to_wait_for u a w cs ≡ None
+head_waits_for_none u a w [] head none = refl
+head_waits_for_none u a w (c ∷ cs) head none =
+    let parts = none_or c.held.begun (list_any (λ (c : HeldCommand). c.held.begun) cs) none in
+    elim (cases_Bool (c.no == w.no)) [
+      | inl itself ↦ at_itself u a w c cs itself ∙ head_waits_for_none u false w cs head parts.1
+      | inr apart ↦ at_free u a w c cs apart (head_waits_not u a c.held w.held head parts.0) ∙ head_waits_for_none u a w cs head parts.1
+    ]
 
 -- a command that leaves
 abbrev is_that : ℕ → Option ℕ → Bool
@@ -339,6 +381,9 @@ same_verdict u ahead a b waits free = verdict (skips a b) (is_head b.attr) ahead
 abbrev pub begun_of : HeldCommand → HeldCommand
 begun_of c = record c { held = record c.held { begun = true } }
 
+with_begun-first : (n : ℕ) (c : HeldCommand) (cs : List HeldCommand) → (c.no == n) ≡ true → with_begun n (c ∷ cs) ≡ begun_of c ∷ with_begun n cs
+with_begun-first n c cs this = ap (λ (first : HeldCommand). first ∷ with_begun n cs) (when-true (c.no == n) (begun_of c) c this)
+
 with_begun-this : (n : ℕ) (c : HeldCommand) (cs : List HeldCommand) → IsSingle (c ∷ cs) → (c.no == n) ≡ true → with_begun n (c ∷ cs) ≡ begun_of c ∷ cs
 with_begun-this n c cs single this =
     ap (λ (first : HeldCommand). first ∷ with_begun n cs) (when-true (c.no == n) (begun_of c) c this)
@@ -380,15 +425,96 @@ begun_waits u a w found n (c ∷ cs) single at waits apart free =
     other_number a b n this apart = grind (arith, nat_tests)
 
 -- the list in which a command begins
+-- its beginning leaves what already waits for it first
+still_waits_if : (skip head ahead begun conflict rest : Bool) → (if skip then false else if head || not ahead then begun && conflict else rest) ≡ true
+    → (if skip then false else if head || not ahead then true && conflict else rest) ≡ true
+still_waits_if true head ahead begun conflict rest h = absurd (false≢true h)
+still_waits_if false true ahead true conflict rest h = h
+still_waits_if false true ahead false conflict rest h = absurd (false≢true h)
+still_waits_if false false true begun conflict rest h = h
+still_waits_if false false false true conflict rest h = h
+still_waits_if false false false false conflict rest h = absurd (false≢true h)
+
+still_waits : (u ahead : Bool) (a b : Held) → has_to_wait u ahead a b ≡ true → has_to_wait u ahead (record a { begun = true }) b ≡ true
+unfolding skips conflicts
+still_waits u ahead a b waits = still_waits_if (skips a b) (is_head b.attr) ahead a.begun (conflicts u a b) (is_ordered b.attr || is_ordered a.attr || is_head a.attr || conflicts u a b) waits
+
+same_some : (a b : ℕ) → Some a ≡ Some b → a ≡ b
+same_some a b h = cc
+
+equal_test : (a b : ℕ) → a ≡ b → (a == b) ≡ true
+equal_test a b same = grind (arith, nat_tests)
+
+begun_blocker : (u a : Bool) (w : HeldCommand) (n : ℕ) (cs : List HeldCommand) → first_to_wait_for u a w cs ≡ Some n → first_to_wait_for u a w (with_begun n cs) ≡ Some n
+begun_blocker u a w n [] is = absurd (cc)
+begun_blocker u a w n (c ∷ cs) is =
+    elim (cases_Bool (c.no == w.no)) [
+      | inl itself ↦
+          let later : first_to_wait_for u false w (with_begun n cs) ≡ Some n = begun_blocker u false w n cs (sym (at_itself u a w c cs itself) ∙ is) in
+          elim (cases_Bool (c.no == n)) [
+            | inl this ↦ ap (first_to_wait_for u a w) (with_begun-first n c cs this) ∙ at_itself u a w (begun_of c) (with_begun n cs) itself ∙ later
+            | inr other ↦ ap (first_to_wait_for u a w) (with_begun-other n c cs other) ∙ at_itself u a w c (with_begun n cs) itself ∙ later
+          ]
+      | inr apart ↦ elim (cases_Bool (has_to_wait u a c.held w.held)) [
+        | inl waits ↦
+            let named : c.no ≡ n = same_some c.no n (sym (at_blocker u a w c cs apart waits) ∙ is) in
+            ap (first_to_wait_for u a w) (with_begun-first n c cs (equal_test c.no n named))
+            ∙ at_blocker u a w (begun_of c) (with_begun n cs) apart (still_waits u a c.held w.held waits) ∙ ap Some named
+        | inr free ↦
+            let later : first_to_wait_for u a w (with_begun n cs) ≡ Some n = begun_blocker u a w n cs (sym (at_free u a w c cs apart free) ∙ is) in
+            elim (cases_Bool (c.no == n)) [
+              | inl this ↦
+                  ap (first_to_wait_for u a w) (with_begun-first n c cs this)
+                  ∙ elim (cases_Bool (has_to_wait u a (begun_of c).held w.held)) [
+                    | inl waits ↦ at_blocker u a w (begun_of c) (with_begun n cs) apart waits ∙ ap Some (same_number c.no n this)
+                    | inr still ↦ at_free u a w (begun_of c) (with_begun n cs) apart still ∙ later
+                  ]
+              | inr other ↦ ap (first_to_wait_for u a w) (with_begun-other n c cs other) ∙ at_free u a w c (with_begun n cs) apart free ∙ later
+            ]
+      ]
+    ]
+
+blocked_is : (n : ℕ) (blocker : Option ℕ) → option_map_or (λ b. b == n) blocker false ≡ true → blocker ≡ Some n
+blocked_is n None is = absurd (false≢true is)
+blocked_is n (Some b) is = ap Some (same_number b n is)
+
+-- what touches a command that waits for one that begins
+abbrev pub TouchesBegun : Bool → ℕ → Held → Change → Type 0
+TouchesBegun u n other what =
+    (c : HeldCommand) (kept : KnownCommand) → touches what u c kept ≡ (not (is_blocked_by n kept) && has_to_wait u false other c.held)
+
+-- what is found under a number has it
+pub found_number : (n : ℕ) (cs : List HeldCommand) (found : HeldCommand) → command_of n cs ≡ Some found → found.no ≡ n
+found_number n [] found is = absurd (cc)
+found_number n (c ∷ cs) found is =
+    elim (cases_Bool (c.no == n)) [
+      | inl this ↦ let same : Some c ≡ Some found = sym (when-true (c.no == n) (Some c) (command_of n cs) this) ∙ is in ap (λ (o : Option HeldCommand). number_or o c.no) (sym same) ∙ same_number c.no n this
+      | inr more ↦ found_number n cs found (sym (when-false (c.no == n) (Some c) (command_of n cs) more) ∙ is)
+    ]
+  where
+    number_or : Option HeldCommand → ℕ → ℕ
+    number_or None other = other
+    number_or (Some it) other = it.no
+
 record Begins (u : Bool) (what : Change) (n : ℕ) (all : List HeldCommand) (found : HeldCommand) : Type 0 where
   single : IsSingle all
   at : command_of n all ≡ Some found
   waits : found.held.begun ≡ false
-  sees : TouchesBy u false (begun_of found).held what
+  sees : TouchesBegun u n (begun_of found).held what
 
 still_begun : (u : Bool) (what : Change) (n : ℕ) (all : List HeldCommand) (found c : HeldCommand) → Begins u what n all found → (c.no == n) ≡ false → IsStill what u all u (with_begun n all) c
-still_begun u what n all found c begins apart yet untouched =
-    begun_waits u true c found n all begins.single begins.at begins.waits apart (sym (begins.sees c (known_in u all c)) ∙ untouched)
+still_begun u what n all found c begins apart yet untouched = go (is_blocked_by n (known_in u all c)) refl
+  where
+    seen : (not (is_blocked_by n (known_in u all c)) && has_to_wait u false (begun_of found).held c.held) ≡ false
+    seen = sym (begins.sees c (known_in u all c)) ∙ untouched
+
+    go : (blocked : Bool) → is_blocked_by n (known_in u all c) ≡ blocked → first_to_wait_for u true c all ≡ first_to_wait_for u true c (with_begun n all)
+    go true is =
+        let blocker : first_to_wait_for u true c all ≡ Some n = sym (blocker_waits u all c yet) ∙ blocked_is n (known_in u all c).blocker is in
+        blocker ∙ sym (begun_blocker u true c n all blocker)
+    go false is =
+        begun_waits u true c found n all begins.single begins.at begins.waits apart
+        (sym (ap (λ (b : Bool). not b && has_to_wait u false (begun_of found).held c.held) is) ∙ seen)
 
 still_absent : (u : Bool) (what : Change) (n : ℕ) (all : List HeldCommand) (found : HeldCommand) (cs : List HeldCommand) → Begins u what n all found → IsNone (command_of n cs)
     → AreStill what u all u (with_begun n all) cs
@@ -441,7 +567,7 @@ pub right_entered : (u : Bool) (what : Change) (new : HeldCommand) (all : List H
     → IsRight what u (before_first waits_yet new all) (before_first waits_yet new all) (before_first waits_in (known_in u (before_first waits_yet new all) new) (map (known_in u all) all))
 right_entered u what new all sees waits fresh = right_before what u all u (before_first waits_yet new all) new all (still_entered u what new all all sees waits fresh)
 
-pub right_beginning : (u : Bool) (what : Change) (n : ℕ) (all : List HeldCommand) (found : HeldCommand) → IsSingle all → command_of n all ≡ Some found → found.held.begun ≡ false → TouchesBy u false (begun_of found).held what
+pub right_beginning : (u : Bool) (what : Change) (n : ℕ) (all : List HeldCommand) (found : HeldCommand) → IsSingle all → command_of n all ≡ Some found → found.held.begun ≡ false → TouchesBegun u n (begun_of found).held what
     → IsRight what u (with_begun n all) (with_begun n all) (slice_set (map (known_in u all) all) (place_of n all) (known_in u (with_begun n all) (begun_of found)))
 right_beginning u what n all found single at waits sees = right_begun u what n all found all (record { single = single; at = at; waits = waits; sees = sees }) single at
 
@@ -550,7 +676,7 @@ right_inserted u what new entered all kept at is place same sees waits fresh =
         ∙ insert_first waits_in (known_in u (before_first waits_yet new all) new) (map (known_in u all) all)
 
 pub right_set : (u : Bool) (what : Change) (n : ℕ) (found entered : HeldCommand) (all : List HeldCommand) (kept : List KnownCommand) (at : ℕ) → kept ≡ map (known_in u all) all → at ≡ place_of n all → IsSingle all
-    → command_of n all ≡ Some found → found.held.begun ≡ false → entered ≡ begun_of found → TouchesBy u false (begun_of found).held what
+    → command_of n all ≡ Some found → found.held.begun ≡ false → entered ≡ begun_of found → TouchesBegun u n (begun_of found).held what
     → IsRight what u (slice_set all at (begun_of found)) (slice_set all at (begun_of found)) (slice_set kept at (known_in u (slice_set all at (begun_of found)) entered))
 right_set u what n found entered all kept at is place single has waits same sees =
     rw (is, place, same, set-place n all found single (place_item n all ∙ has)) (right_beginning u what n all found single has waits sees)

@@ -1,2 +1,3 @@
+mod Searching
 mod Commands
 pub mod Known

@@ -22,12 +22,23 @@ pub record AreKept (unrestricted : Bool) (commands : Kept HeldCommand) (known : 
   pub items : known.items ≡ map (known_in unrestricted commands.items) commands.items
   pub room : known.room ≡ commands.room
 
--- a change may tell another blocker of a command than the one kept
+-- what is kept of a command names this one as its blocker
+abbrev pub is_blocked_by : ℕ → KnownCommand → Bool
+is_blocked_by number kept = option_map_or (λ blocker. blocker == number) kept.blocker false
+
+-- a change may tell another blocker of a command than the one kept: the blocker stays that begins, and goes that leaves
+abbrev pub may_touch : Change → KnownCommand → Bool
+may_touch change.Order kept = true
+may_touch (change.Entered entered) kept = true
+may_touch (change.Begun begun) kept = not (is_blocked_by begun.now.no kept)
+may_touch (change.Left left) kept = is_blocked_by left kept
+
 abbrev pub touches : Change → Bool → HeldCommand → KnownCommand → Bool
 touches change.Order unrestricted command kept = true
 touches (change.Entered entered) unrestricted command kept = has_to_wait unrestricted true entered.now.held command.held
-touches (change.Begun begun) unrestricted command kept = has_to_wait unrestricted false begun.now.held command.held
-touches (change.Left left) unrestricted command kept = option_map_or (λ blocker. blocker == left) kept.blocker false
+touches (change.Begun begun) unrestricted command kept =
+    not (is_blocked_by begun.now.no kept) && has_to_wait unrestricted false begun.now.held command.held
+touches (change.Left left) unrestricted command kept = is_blocked_by left kept
 
 abbrev pub is_touched : Change → Bool → HeldCommand → KnownCommand → Bool
 is_touched what unrestricted command kept = waits_yet command && touches what unrestricted command kept

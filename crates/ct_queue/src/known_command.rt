@@ -1,10 +1,11 @@
 //! What a queue knows of each command, kept beside it until a change may tell another blocker.
 
-ghost use Rattle.std.specs.Prelude.{◌≡◌, map};
+ghost use Rattle.std.specs.Prelude.{◌≡◌, map, false};
+ghost use Rattle.std.specs.List.{list_any};
 ghost use Rattle.ct_matrix.specs.Queues.{first_to_wait_for};
-ghost use Rattle.ct_queue.specs.KnownCommands.{known_in, is_touched, IsRight};
+ghost use Rattle.ct_queue.specs.KnownCommands.{known_in, is_blocked_by, may_touch, is_touched, IsRight};
 
-use crate::search::{blocker, waits_for};
+use crate::search::{blocker, some_begun, waits_for};
 use ct_matrix::HeldCommand;
 use ct_shelf::Shelf;
 use ct_word::{CmdNo, Reserve};
@@ -31,23 +32,46 @@ pub(crate) enum Change<'a> {
     Left(CmdNo),
 }
 
-/// What is known of a command among all.
+/// What is known of a command among all, of which some may have begun.
 pub(crate) fn known_of(
     commands: &Shelf<HeldCommand>,
     command: &HeldCommand,
+    some_begun: bool,
     free_order: bool,
 ) -> KnownCommand
+    requires { some_begun ≡ false → list_any (λ c. c.held.begun) commands.now.items ≡ false }
     ensures { result ≡ known_in free_order commands.now.items command.now }
 {
     let blocker = if command.held.begun {
         None
     } else {
-        blocker(commands, command, free_order)
+        blocker(commands, command, some_begun, free_order)
     };
     KnownCommand {
         no: command.no,
         begun: command.held.begun,
         blocker,
+    }
+}
+
+// What is known of a command names this one as its blocker.
+fn is_blocked_by(known: &KnownCommand, no: CmdNo) -> bool
+    ensures { result ≡ is_blocked_by no known.now }
+{
+    match known.blocker {
+        Some(blocker) => blocker == no,
+        None => false,
+    }
+}
+
+// A change may tell another blocker of a command of which this is known, whatever the command is.
+fn may_touch(change: &Change<'_>, known: &KnownCommand) -> bool
+    ensures { result ≡ may_touch change.now known.now }
+{
+    match change {
+        Change::Order | Change::Entered(_) => true,
+        Change::Begun(begun) => !is_blocked_by(known, begun.no),
+        Change::Left(no) => is_blocked_by(known, *no),
     }
 }
 
@@ -66,11 +90,11 @@ fn is_touched(
     match change {
         Change::Order => true,
         Change::Entered(entered) => waits_for(&entered.held, &command.held, true, free_order),
-        Change::Begun(begun) => waits_for(&begun.held, &command.held, false, free_order),
-        Change::Left(no) => match known.blocker {
-            Some(blocker) => blocker == *no,
-            None => false,
-        },
+        Change::Begun(begun) => {
+            !is_blocked_by(known, begun.no)
+                && waits_for(&begun.held, &command.held, false, free_order)
+        }
+        Change::Left(no) => is_blocked_by(known, *no),
     }
 }
 
@@ -84,10 +108,14 @@ pub(crate) fn refresh(
     requires { IsRight change.now free_order commands.now.items commands.now.items known.old.items }
     ensures { known.new ≡ record known.old { items = map (known_in free_order commands.now.items) commands.now.items } }
 {
+    let some_begun = some_begun(commands);
     for at in 0..commands.len() {
-        let command = commands.item(at);
-        if is_touched(change, command, &known.as_slice()[at], free_order) {
-            known.set(at, known_of(commands, command, free_order));
+        let kept = known.as_slice()[at];
+        if may_touch(change, &kept) {
+            let command = commands.item(at);
+            if is_touched(change, command, &kept, free_order) {
+                known.set(at, known_of(commands, command, some_begun, free_order));
+            }
         }
     }
 }

@@ -59,7 +59,7 @@ impl Waits for Queue {
                 let commands = &self.commands;
                 let entered = commands.item(at);
                 self.known
-                    .insert(at, known_of(commands, entered, self.unrestricted));
+                    .insert(at, known_of(commands, entered, true, self.unrestricted));
                 let change = Change::Entered(entered);
                 refresh(&mut self.known, commands, &change, self.unrestricted);
             }
@@ -67,8 +67,7 @@ impl Waits for Queue {
                 let at = self.commands.len();
                 self.commands.push(HeldCommand { no, held });
                 let commands = &self.commands;
-                self.known
-                    .push(known_of(commands, commands.item(at), self.unrestricted));
+                self.known.push(known_of(commands, commands.item(at), true, self.unrestricted));
             }
         }
     }
@@ -79,7 +78,7 @@ impl Waits for Queue {
         let commands = &self.commands;
         let begun = commands.item(at);
         self.known
-            .set(at, known_of(commands, begun, self.unrestricted));
+            .set(at, known_of(commands, begun, true, self.unrestricted));
         let change = Change::Begun(begun);
         refresh(&mut self.known, commands, &change, self.unrestricted);
     }

@@ -1,13 +1,13 @@
 //! Searches in a queue.
 
-ghost use Rattle.std.specs.Prelude.{◌≡◌, true, slice_get};
-ghost use Rattle.std.specs.List.{find, position_or_len};
+ghost use Rattle.std.specs.Prelude.{◌≡◌, true, false, slice_get};
+ghost use Rattle.std.specs.List.{find, list_any, position_or_len};
 ghost use Rattle.ct_matrix.specs.Conflicts.{has_to_wait};
 ghost use Rattle.ct_matrix.specs.Queues.{first_to_wait_for};
 ghost use Rattle.ct_queue.specs.KnownCommands.{has_number, waits_in, is_ready_in, has_begun_in, number_in};
 
 use crate::known_command::KnownCommand;
-use ct_matrix::{Demand, Held, HeldCommand, demand};
+use ct_matrix::{Attr, Demand, Held, HeldCommand, demand};
 use ct_shelf::Shelf;
 use ct_word::CmdNo;
 
@@ -57,14 +57,33 @@ pub(crate) fn waits_for(live: &Held, waiting: &Held, ahead: bool, free_order: bo
     }
 }
 
-/// The first command for which a waiting one has to wait.
+/// Some command has begun.
+pub(crate) fn some_begun(commands: &Shelf<HeldCommand>) -> bool
+    ensures { result ≡ list_any (λ c. c.held.begun) commands.now.items }
+{
+    for at in 0..commands.len() {
+        if commands.item(at).held.begun {
+            return true;
+        }
+    }
+    false
+}
+
+/// The first command for which a waiting one has to wait. A HEAD OF QUEUE command waits for none where none has begun.
 pub(crate) fn blocker(
     commands: &Shelf<HeldCommand>,
     waiting: &HeldCommand,
+    some_begun: bool,
     free_order: bool,
 ) -> Option<CmdNo>
+    requires { some_begun ≡ false → list_any (λ c. c.held.begun) commands.now.items ≡ false }
     ensures { result ≡ first_to_wait_for free_order true waiting.now commands.now.items }
 {
+    if let Attr::Head = waiting.held.attr {
+        if !some_begun {
+            return None;
+        }
+    }
     let mut ahead = true;
     for at in 0..commands.len() {
         let live = commands.item(at);

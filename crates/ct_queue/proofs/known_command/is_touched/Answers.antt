@@ -6,12 +6,3 @@ returns-in-Order c = rw (c.in-Order.is) (touched_waits _ _ c.if-command.false)
 
 pub returns-in-Entered : goal.returns-in-Entered
 returns-in-Entered c = rw (c.in-Entered.is, c.waits_for.ensures) (touched_waits _ _ c.if-command.false)
-
-pub returns-in-Begun : goal.returns-in-Begun
-returns-in-Begun c = rw (c.in-Begun.is, c.waits_for-in-Begun.ensures) (touched_waits _ _ c.if-command.false)
-
-pub returns-in-Some : goal.returns-in-Some
-returns-in-Some c = rw (c.in-Left.is, c.in-Some.is, c.eq.ensures) (touched_waits _ _ c.if-command.false)
-
-pub returns-in-None : goal.returns-in-None
-returns-in-None c = rw (c.in-Left.is, c.in-None.is) (touched_waits _ _ c.if-command.false)

@@ -1,7 +1,7 @@
-use Rattle.std.proofs.Common.{◌+◌, drop, sym, ap, ◌∙◌}
+use Rattle.std.proofs.Common.{true, ◌+◌, drop, sym, ap, ◌∙◌}
 use Rattle.ct_shelf.proofs.Reading.{drop_item}
 use Rattle.ct_matrix.specs.Queues.{first_to_wait_for}
-use Rattle.ct_queue.proofs.Known.{at_itself, at_blocker, at_free}
+use Rattle.ct_queue.proofs.Known.{at_itself, at_blocker, at_free, head_waits_for_none}
 use Rattle.ct_queue.proofs.search.blocker.Goals as goal
 use Rattle.ct_queue.proofs.search.blocker.Goals.{then-eq, else-eq+else-waits_for}
 
@@ -22,3 +22,7 @@ loop-at-preserved c =
           rw w.ahead-is
           (sym (at_free c.args.free_order c.loop-at.ahead c.args.waiting.now c.item-live.result.now (drop (c.loop-at.at + 1) c.args.commands.now.items) (sym c.eq.ensures ∙ w.if-eq.false) (sym w.waits_for.ensures ∙ w.if-waits_for.false)) ∙ before)
     ]
+
+pub returns-then-not-some_begun : goal.returns-then-not-some_begun
+returns-then-not-some_begun c =
+    sym (head_waits_for_none c.args.free_order true c.args.waiting.now c.args.commands.now.items c.in-Head.is (c.requires c.if-not-some_begun.true))
