@@ -1,9 +1,9 @@
 -- Ports and numbers have places of their own.
-use Rattle.std.proofs.Common.{◌≡◌, ◌≢◌, ◌<◌, ℕ, zero, suc, Bool, true, false, Option, None, Some, refl, ap, ◌∙◌, arith}
+use Rattle.std.proofs.Common.{◌≡◌, ◌≢◌, ◌<◌, ℕ, zero, suc, ◌+◌, ◌*◌, Bool, true, false, Option, None, Some, refl, ap, ◌∙◌, arith}
 use Rattle.std.proofs.Common.{slice_index_or, slice_set, replicate, get_or-set_same, get_or-set_other}
 use Rattle.std.specs.Prelude.{if◌then◌else◌}
 use Rattle.std.proofs.lemmas.Bool.Decides.{nat_tests}
-use Rattle.ct_word.specs.Nexuses.{IsNexus}
+use Rattle.ct_word.specs.Nexuses.{IsNexus, place_of}
 use Rattle.ct_word.specs.declared.names.LunNo.{LunNo}
 use Rattle.ct_word.specs.declared.names.Nexus.{Nexus}
 use Rattle.ct_word.specs.declared.names.Node.{Node}
@@ -41,6 +41,9 @@ other_port declared port other node differ = get_or-set_other declared.nodes por
 
 -- a place is that of one number of one nexus
 
+place_within : (nexus : Nexus) → IsNexus nexus → place_of nexus ≡ nexus.port * 16 + nexus.init
+place_within nexus in_range = grind (arith, nat_tests, in_range.port, in_range.init)
+
 in_place : (nexus : Nexus) (x : ℕ) → is_place nexus x ≡ true → IsNexus nexus × (x < 16)
 in_place nexus x e =
     (record { port = grind (arith, nat_tests, e); init = grind (arith, nat_tests, e) }, grind (arith, nat_tests, e))
@@ -51,9 +54,11 @@ is_in_place nexus x in_range below = grind (arith, nat_tests, in_range.port, in_
 places_differ : (a b : Nexus) (x y : ℕ) → IsNexus a → IsNexus b → x < 16 → y < 16 → is_same_place a x b y ≡ false
     → place_in a x ≢ place_in b y
 places_differ a b x y in_a in_b in_x in_y differ same =
-    let port : a.port ≡ b.port = omega (arith, in_a.init, in_b.init, in_x, in_y, same) in
-    let init : a.init ≡ b.init = omega (arith, in_a.init, in_b.init, in_x, in_y, same) in
-    let number : x ≡ y = omega (arith, in_a.init, in_b.init, in_x, in_y, same) in
+    let at_a = place_within a in_a in
+    let at_b = place_within b in_b in
+    let port : a.port ≡ b.port = omega (arith, at_a, at_b, in_a.init, in_b.init, in_x, in_y, same) in
+    let init : a.init ≡ b.init = omega (arith, at_a, at_b, in_a.init, in_b.init, in_x, in_y, same) in
+    let number : x ≡ y = omega (arith, at_a, at_b, in_a.init, in_b.init, in_x, in_y, same) in
     let equal : is_same_place a x b y ≡ true = rw (port, init, number) (grind (arith, nat_tests)) in
     cc
 
@@ -64,7 +69,7 @@ unit_added declared nexus x unit has in_range below =
     ap (λ t. if t then slice_index_or (slice_set declared.units (place_in nexus x) (Some unit)) (place_in nexus x) None else None)
     (is_in_place nexus x in_range below)
     ∙ get_or-set_same declared.units (place_in nexus x) (Some unit) None
-    (omega (arith, has.numbers, in_range.port, in_range.init, below))
+    (omega (arith, has.numbers, place_within nexus in_range, in_range.port, in_range.init, below))
 
 pub other_unit : (declared : Declared) (nexus other : Nexus) (x y : ℕ) (unit : LunNo) → IsNexus nexus → x < 16
     → is_same_place other y nexus x ≡ false → unit_of (with_unit declared nexus x unit) other y ≡ unit_of declared other y

@@ -109,5 +109,5 @@ fn is_place(n: Nexus, x: u8) -> bool
 fn place_in(n: Nexus, x: u8) -> usize
     ensures { result ≡ place_in n x }
 {
-    usize::from(n.port) * 256 + usize::from(n.init) * 16 + usize::from(x)
+    n.place() * 16 + usize::from(x)
 }
