@@ -93,8 +93,17 @@ WaitsForFunctions journal = Each (λ before logged. BeginsAlone before logged.ev
 
 -- the function that an event closes, and that the last event of a journal closed
 abbrev pub closed_by : Event → Option ℕ
+closed_by (event.Came number node line) = None
+closed_by (event.Enter number) = None
+closed_by (event.Turned number) = None
+closed_by (event.Begun number) = None
+closed_by (event.Granted number) = None
+closed_by (event.Moved number count) = None
+closed_by (event.Ended number) = None
+closed_by (event.Cut number puts why told) = None
+closed_by (event.Asked number) = None
 closed_by (event.Closed number outcome) = Some number
-closed_by _ = None
+closed_by (event.Deliver node kind number) = None
 
 abbrev pub last_closed : List Logged → Option ℕ
 last_closed journal = fold (λ (last : Option ℕ) (logged : Logged). closed_by logged.event) None journal

@@ -38,10 +38,17 @@ is_begin wanted _ = false
 
 -- the command that starts by an event, if it hasn't before: it begins, is granted, or ends
 abbrev pub started_by : Event → Option ℕ
+started_by (event.Came number node line) = None
+started_by (event.Enter number) = None
+started_by (event.Turned number) = None
 started_by (event.Begun number) = Some number
 started_by (event.Granted number) = Some number
+started_by (event.Moved number count) = None
 started_by (event.Ended number) = Some number
-started_by _ = None
+started_by (event.Cut number puts why told) = None
+started_by (event.Asked number) = None
+started_by (event.Closed number outcome) = None
+started_by (event.Deliver node kind number) = None
 
 abbrev pub is_number : ℕ → Option ℕ → Bool
 is_number wanted (Some number) = number == wanted
@@ -56,8 +63,17 @@ AtStart P before happened = IfSome (started_by happened) (λ number. has (is_sta
 
 -- the command that ends by an event
 abbrev pub ended_by : Event → Option ℕ
+ended_by (event.Came number node line) = None
+ended_by (event.Enter number) = None
+ended_by (event.Turned number) = None
+ended_by (event.Begun number) = None
+ended_by (event.Granted number) = None
+ended_by (event.Moved number count) = None
 ended_by (event.Ended number) = Some number
-ended_by _ = None
+ended_by (event.Cut number puts why told) = None
+ended_by (event.Asked number) = None
+ended_by (event.Closed number outcome) = None
+ended_by (event.Deliver node kind number) = None
 
 -- P holds of a command where it ends
 abbrev pub AtEnd : (ℕ → Type 0) → Event → Type 0
