@@ -7,7 +7,7 @@ use Rattle.ct_tmf.specs.declared.function.Function.TheVariants.{ClearTaskSet}
 use Rattle.ct_book.specs.declared.work.Work.TheVariants as work
 use Rattle.ct_book.specs.declared.event.Event.{Event}
 use Rattle.ct_book.specs.declared.event.Event.TheVariants as event
-use Rattle.ct_book.specs.declared.event.Why.TheVariants.{By}
+use Rattle.ct_book.specs.declared.event.Why.TheVariants.{By, Medium}
 use Rattle.ct_book.specs.declared.event.Logged.{Logged}
 use Rattle.ct_book.specs.declared.event.Entry.{Entry}
 use Rattle.ct_book.specs.declared.event.Entry.TheVariants as entry
@@ -16,8 +16,18 @@ use Rattle.ct_book.specs.Journals.{KeptWork, numbered, works_in}
 
 -- the numbers of the commands that a function, or another command, cut by so far
 abbrev pub cut_at : ℕ → Event → List ℕ
+cut_at by (event.Came number node line) = []
+cut_at by (event.Enter number) = []
+cut_at by (event.Turned number) = []
+cut_at by (event.Begun number) = []
+cut_at by (event.Granted number) = []
+cut_at by (event.Moved number count) = []
+cut_at by (event.Ended number) = []
 cut_at by (event.Cut number puts (By cutter) told) = if cutter == by then number ∷ [] else []
-cut_at by _ = []
+cut_at by (event.Cut number puts Medium told) = []
+cut_at by (event.Asked number) = []
+cut_at by (event.Closed number outcome) = []
+cut_at by (event.Deliver node kind number) = []
 
 abbrev pub cut_by : ℕ → List Logged → List ℕ
 cut_by by [] = []
@@ -36,9 +46,19 @@ others_of asker works (number ∷ numbers) = with_other asker (numbered number w
 
 -- a set with the nexus of the command that an event says was cut by a work, where it is another than the asker's
 abbrev pub with_cut : ℕ → Nexus → List KeptWork → Event → List Bool → List Bool
+with_cut by asker works (event.Came number node line) set = set
+with_cut by asker works (event.Enter number) set = set
+with_cut by asker works (event.Turned number) set = set
+with_cut by asker works (event.Begun number) set = set
+with_cut by asker works (event.Granted number) set = set
+with_cut by asker works (event.Moved number count) set = set
+with_cut by asker works (event.Ended number) set = set
 with_cut by asker works (event.Cut number puts (By cutter) told) set =
     if cutter == by then with_other asker (numbered number works) set else set
-with_cut by asker works _ set = set
+with_cut by asker works (event.Cut number puts Medium told) set = set
+with_cut by asker works (event.Asked number) set = set
+with_cut by asker works (event.Closed number outcome) set = set
+with_cut by asker works (event.Deliver node kind number) set = set
 
 -- the set of a function's entry: for CLEAR TASK SET the other nexuses of which it cut a command
 abbrev pub set_of : Function → Nexus → List KeptWork → List ℕ → List Bool

@@ -6,7 +6,7 @@ use Rattle.ct_tmf.specs.declared.function.Outcome.{Outcome}
 use Rattle.ct_book.specs.declared.work.Work.TheVariants as work
 use Rattle.ct_book.specs.declared.event.Event.{Event}
 use Rattle.ct_book.specs.declared.event.Event.TheVariants as event
-use Rattle.ct_book.specs.declared.event.Why.TheVariants.{Medium}
+use Rattle.ct_book.specs.declared.event.Why.TheVariants.{By, Medium}
 use Rattle.ct_book.specs.declared.event.Logged.{Logged}
 use Rattle.ct_book.specs.Journals.{line_of}
 use Rattle.ct_machine.specs.declared.act.Answer.{Answer}
@@ -24,13 +24,31 @@ unchanged said s = record { turn = nothing s; answer = said }
 
 -- an event by which a command is over, and one by which a function is answered
 abbrev pub ends : ℕ → Event → Bool
+ends number (event.Came over node line) = false
+ends number (event.Enter over) = false
+ends number (event.Turned over) = false
+ends number (event.Begun over) = false
+ends number (event.Granted over) = false
+ends number (event.Moved over count) = false
 ends number (event.Ended over) = over == number
 ends number (event.Cut over puts Medium told) = over == number
-ends number _ = false
+ends number (event.Cut over puts (By by) told) = false
+ends number (event.Asked over) = false
+ends number (event.Closed over outcome) = false
+ends number (event.Deliver node kind over) = false
 
 abbrev pub outcome_in : ℕ → Event → Option Outcome
+outcome_in number (event.Came over node line) = None
+outcome_in number (event.Enter over) = None
+outcome_in number (event.Turned over) = None
+outcome_in number (event.Begun over) = None
+outcome_in number (event.Granted over) = None
+outcome_in number (event.Moved over count) = None
+outcome_in number (event.Ended over) = None
+outcome_in number (event.Cut over puts why told) = None
+outcome_in number (event.Asked over) = None
 outcome_in number (event.Closed over outcome) = if over == number then Some outcome else None
-outcome_in number _ = None
+outcome_in number (event.Deliver node kind over) = None
 
 abbrev pub line_by : Option Arrival → ℕ
 line_by None = 0

@@ -28,13 +28,30 @@ abbrev pub is_entry : ℕ → Event → Bool
 is_entry wanted event = (facts_of event).is_entry && ((facts_of event).no == wanted)
 
 abbrev pub is_enter : ℕ → Event → Bool
+is_enter wanted (event.Came number node line) = false
 is_enter wanted (event.Enter number) = number == wanted
-is_enter wanted _ = false
+is_enter wanted (event.Turned number) = false
+is_enter wanted (event.Begun number) = false
+is_enter wanted (event.Granted number) = false
+is_enter wanted (event.Moved number count) = false
+is_enter wanted (event.Ended number) = false
+is_enter wanted (event.Cut number puts why told) = false
+is_enter wanted (event.Asked number) = false
+is_enter wanted (event.Closed number outcome) = false
+is_enter wanted (event.Deliver node kind number) = false
 
 abbrev pub is_begin : ℕ → Event → Bool
+is_begin wanted (event.Came number node line) = false
+is_begin wanted (event.Enter number) = false
+is_begin wanted (event.Turned number) = false
 is_begin wanted (event.Begun number) = number == wanted
 is_begin wanted (event.Granted number) = number == wanted
-is_begin wanted _ = false
+is_begin wanted (event.Moved number count) = false
+is_begin wanted (event.Ended number) = false
+is_begin wanted (event.Cut number puts why told) = false
+is_begin wanted (event.Asked number) = false
+is_begin wanted (event.Closed number outcome) = false
+is_begin wanted (event.Deliver node kind number) = false
 
 -- the command that starts by an event, if it hasn't before: it begins, is granted, or ends
 abbrev pub started_by : Event → Option ℕ
@@ -80,8 +97,17 @@ abbrev pub AtEnd : (ℕ → Type 0) → Event → Type 0
 AtEnd P happened = IfSome (ended_by happened) P
 
 abbrev pub is_asked : ℕ → Event → Bool
+is_asked wanted (event.Came number node line) = false
+is_asked wanted (event.Enter number) = false
+is_asked wanted (event.Turned number) = false
+is_asked wanted (event.Begun number) = false
+is_asked wanted (event.Granted number) = false
+is_asked wanted (event.Moved number count) = false
+is_asked wanted (event.Ended number) = false
+is_asked wanted (event.Cut number puts why told) = false
 is_asked wanted (event.Asked number) = number == wanted
-is_asked wanted _ = false
+is_asked wanted (event.Closed number outcome) = false
+is_asked wanted (event.Deliver node kind number) = false
 
 -- the first event that passes one of two tests passes the first
 abbrev pub comes_first : (Event → Bool) → (Event → Bool) → List Logged → Bool
@@ -92,8 +118,17 @@ comes_first first second (logged ∷ journal) =
 
 -- the block operations that a command made
 abbrev pub made_at : ℕ → Event → ℕ
+made_at wanted (event.Came number node line) = 0
+made_at wanted (event.Enter number) = 0
+made_at wanted (event.Turned number) = 0
+made_at wanted (event.Begun number) = 0
+made_at wanted (event.Granted number) = 0
 made_at wanted (event.Moved number count) = if number == wanted then count else 0
-made_at wanted _ = 0
+made_at wanted (event.Ended number) = 0
+made_at wanted (event.Cut number puts why told) = 0
+made_at wanted (event.Asked number) = 0
+made_at wanted (event.Closed number outcome) = 0
+made_at wanted (event.Deliver node kind number) = 0
 
 abbrev pub made_by : ℕ → List Logged → ℕ
 made_by wanted [] = 0

@@ -6,7 +6,7 @@ use Rattle.ct_book.specs.declared.work.Command.{Command}
 use Rattle.ct_book.specs.declared.work.Work.TheVariants as work
 use Rattle.ct_book.specs.declared.event.Event.{Event}
 use Rattle.ct_book.specs.declared.event.Event.TheVariants as event
-use Rattle.ct_book.specs.declared.event.Why.TheVariants.{By}
+use Rattle.ct_book.specs.declared.event.Why.TheVariants.{By, Medium}
 use Rattle.ct_book.specs.declared.event.Logged.{Logged}
 use Rattle.ct_book.specs.Journals.{KeptWork}
 use Rattle.ct_exec.specs.Controls.{tells_aborts}
@@ -64,8 +64,18 @@ due_of standings o journal = due_behind standings o [] (record { by = 0; told = 
 
 -- a cut by a command, no function
 abbrev pub IsCutByCommand : List Logged → Event → Type 0
+IsCutByCommand before (event.Came number node line) = ⊥
+IsCutByCommand before (event.Enter number) = ⊥
+IsCutByCommand before (event.Turned number) = ⊥
+IsCutByCommand before (event.Begun number) = ⊥
+IsCutByCommand before (event.Granted number) = ⊥
+IsCutByCommand before (event.Moved number count) = ⊥
+IsCutByCommand before (event.Ended number) = ⊥
 IsCutByCommand before (event.Cut number puts (By by) told) = (command : Command) × IsCommandOf before by command
-IsCutByCommand before _ = ⊥
+IsCutByCommand before (event.Cut number puts Medium told) = ⊥
+IsCutByCommand before (event.Asked number) = ⊥
+IsCutByCommand before (event.Closed number outcome) = ⊥
+IsCutByCommand before (event.Deliver node kind number) = ⊥
 
 -- what is due comes next, and nothing else is cut by a command
 abbrev pub IsTimelyAt : List Logged → Due → List ℕ → Event → Type 0
