@@ -7,7 +7,7 @@ use Rattle.std.proofs.lemmas.Bool.Decides.{nat_tests}
 use Rattle.ct_word.specs.declared.limit.TheConstants.{MOST_LINES, MOST_DATA_OUT}
 use Rattle.ct_script.specs.declared.script.Line.{Line}
 use Rattle.ct_script.specs.declared.script.Word.{Word}
-use Rattle.ct_script.specs.declared.script.Word.TheVariants.{Lun, Port, Map, Cmd, Task, Step, Drain, Sync}
+use Rattle.ct_script.specs.declared.script.Word.TheVariants.{Ha, Lun, Port, Map, Cmd, Task, Step, Deliver, Drain, Sync}
 use Rattle.ct_script.specs.declared.script.What.{What}
 use Rattle.ct_script.specs.declared.script.What.TheVariants.{Form, Name, Limit}
 use Rattle.ct_script.specs.Rules.{is_misnamed, is_over, passes_limit}
@@ -20,6 +20,7 @@ abbrev answered : Bool → Bool → Line → Result Line What
 answered misnamed over line = if misnamed then Err Name else if over then Err Limit else Ok line
 
 judged_kept : (earlier : List Line) (number : ℕ) (word : Word) → judged earlier number (kept word) ≡ judged earlier number word
+judged_kept earlier number (Ha mode) = refl
 judged_kept earlier number (Lun lun blocks sizes) = refl
 judged_kept earlier number (Port port node) = refl
 judged_kept earlier number (Map n x lun) = refl
@@ -55,6 +56,7 @@ judged_kept earlier number (Cmd n x tag attr cdb out) = by_length (nat_lt MOST_D
         ∙ sym (over out e (is_misnamed earlier (with_data out)) (nat_lt MOST_LINES number))
 judged_kept earlier number (Task n x function) = refl
 judged_kept earlier number (Step lun blocks count) = refl
+judged_kept earlier number (Deliver lun node) = refl
 judged_kept earlier number (Drain lun) = refl
 judged_kept earlier number Sync = refl
 

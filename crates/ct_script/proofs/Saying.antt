@@ -16,8 +16,8 @@ pub none_within : IsWithin []
 unfolding asked_by
 none_within = record { faultless = ([], none_said); limits = refl; in_range = All-nil (λ (line : Line). IsInRange line.word) }
 
-pub none_add_up : (lines : List Line) → lines ≡ [] → AddUp lines 0 None 0 0 0 0
-none_add_up lines e = subst (λ ls. AddUp ls 0 None 0 0 0 0) (sym e) (record {
+pub none_add_up : (lines : List Line) → lines ≡ [] → AddUp lines 0 0 0 0 0 0
+none_add_up lines e = subst (λ ls. AddUp ls 0 0 0 0 0 0) (sym e) (record {
   in_order = record { few = omega arith; quiet = refl; acting = refl };
   blocks_are = refl;
   commands_are = refl;

@@ -1,5 +1,5 @@
 -- Lines in no fault, each judged behind the lines before it, and the first line in fault.
-use Rattle.std.specs.Prelude.{◌≡◌, ◌≢◌, ◌↔◌, ℕ, ◌+◌, List, [], ◌∷◌, ◌++◌, ◌==◌, true, false, length, sum_by, count_by, Option, Some, None, Ok, Err}
+use Rattle.std.specs.Prelude.{◌≡◌, ◌≢◌, ◌↔◌, ℕ, ◌+◌, List, [], ◌∷◌, ◌++◌, ◌==◌, true, false, length, sum_by, count_by, Some, None, Ok, Err}
 use Rattle.std.specs.List.{slice_split}
 use Rattle.ct_script.specs.declared.script.Line.{Line}
 use Rattle.ct_script.specs.declared.script.Word.{Word}
@@ -8,7 +8,7 @@ use Rattle.ct_script.specs.declared.script.What.TheVariants.{Form, Name, Limit}
 use Rattle.ct_script.specs.declared.script.ScriptFault.{ScriptFault}
 use Rattle.ct_script.specs.Words.{words_of}
 use Rattle.ct_script.specs.Forms.{word_of}
-use Rattle.ct_script.specs.Rules.{is_misnamed, is_over, passes_limit, is_command, is_task, data_bytes, declared_blocks, asked_by, AreInRange, SetUpFirst}
+use Rattle.ct_script.specs.Rules.{is_misnamed, is_over, passes_limit, is_command, is_task, data_bytes, line_blocks, asked_by, AreInRange, SetUpFirst}
 use Rattle.ct_script.specs.Scripts.{line_at, script_of}
 
 -- a text says a line behind these lines: it is in form, with the next number, names what it may, and passes no limit
@@ -37,13 +37,13 @@ pub record IsWithin (lines : List Line) : Type 0 where
   pub limits : is_over lines ≡ false
   pub in_range : AreInRange lines
 
--- what lines add up to: those that set up, which come first; the blocks of the disk; commands, functions, bytes of DATA,
--- block operations; no limit is passed
-pub record AddUp (lines : List Line) (settings : ℕ) (blocks : Option ℕ) (commands tasks bytes operations : ℕ) : Type 0 where
+-- what lines add up to: those that set up, which come first; commands, functions, blocks of units, bytes of DATA, block
+-- operations; no limit is passed
+pub record AddUp (lines : List Line) (settings commands tasks blocks bytes operations : ℕ) : Type 0 where
   pub in_order : SetUpFirst lines settings
-  pub blocks_are : blocks ≡ declared_blocks lines
   pub commands_are : commands ≡ count_by is_command lines
   pub tasks_are : tasks ≡ count_by is_task lines
+  pub blocks_are : blocks ≡ sum_by line_blocks lines
   pub bytes_are : bytes ≡ sum_by data_bytes lines
   pub operations_are : operations ≡ asked_by lines
   pub within : IsWithin lines

@@ -1,11 +1,13 @@
 //! The forms of a script's lines: what the words of a line say.
 
-ghost use Rattle.std.specs.Prelude.{◌≡◌, ◌+◌, ◌-◌, ◌^◌, IfOk, IfSome, option_map, take, bytes_eq};
-ghost use Rattle.ct_script.specs.Rules.{IsInRange, IsSized};
+ghost use Rattle.std.specs.Prelude.{◌≡◌, ◌+◌, ◌-◌, ◌^◌, ◌<◌, Some, IfOk, IfSome, option_map, take, bytes_eq};
+ghost use Rattle.ct_word.specs.Nexuses.{IsNexus};
+ghost use Rattle.ct_script.specs.Rules.{IsInRange, IsSeen, IsSized};
 ghost use Rattle.ct_script.specs.Reading.{kept};
 ghost use Rattle.ct_script.specs.ByteText.{bytes_of_text};
 ghost use Rattle.ct_script.specs.Words.{number_in};
-ghost use Rattle.ct_script.specs.Forms.{word_of, lun_of, sizes_of, attribute_of, port_of, map_of, step_of, drain_of, sync_of};
+ghost use Rattle.ct_script.specs.Forms.{word_of, ha_of, lun_of, sizes_of, attribute_of, port_of, map_of, step_of};
+ghost use Rattle.ct_script.specs.Forms.{deliver_of, drain_of, sync_of, small, lun_no, nexus_of, node_of};
 ghost use Rattle.ct_script.specs.Forms.{cmd_of, command_of, cdb_bytes_of, data_of};
 ghost use Rattle.ct_script.specs.Forms.{task_of, asked_of, function_of, tagged_of};
 
@@ -18,7 +20,7 @@ use ct_tmf::Function;
 use ct_word::limit::{
     DEPTH, MOST_BLOCKS, MOST_CDB, MOST_DATA_OUT, MOST_DEPTH, MOST_POOL, MOST_STEP, POOL,
 };
-use ct_word::{Bytes, LunNo, Nexus, NoMemory, Node, Tag};
+use ct_word::{Bytes, Ha, LunNo, Nexus, NoMemory, Node, Tag};
 use std::alloc::Global;
 
 /// The most bytes of DATA that are kept: one more than a line may have.
@@ -33,7 +35,9 @@ pub fn read_word(alloc: Global, mut words: Parts<'_>) -> Result<Option<Word>, No
     let Some(name) = words.next() else {
         return Ok(None);
     };
-    if spells(name, "lun") {
+    if spells(name, "ha") {
+        Ok(ha_form(words))
+    } else if spells(name, "lun") {
         Ok(lun_form(words))
     } else if spells(name, "port") {
         Ok(port_form(words))
@@ -45,6 +49,8 @@ pub fn read_word(alloc: Global, mut words: Parts<'_>) -> Result<Option<Word>, No
         Ok(task_form(words))
     } else if spells(name, "step") {
         Ok(step_form(words))
+    } else if spells(name, "deliver") {
+        Ok(deliver_form(words))
     } else if spells(name, "drain") {
         Ok(drain_form(words))
     } else if spells(name, "sync") {
@@ -54,7 +60,19 @@ pub fn read_word(alloc: Global, mut words: Parts<'_>) -> Result<Option<Word>, No
     }
 }
 
-// `lun 0 blocks N`, and `depth D pool P` behind it
+// `ha none`
+fn ha_form(mut words: Parts<'_>) -> Option<Word>
+    ensures word { result ≡ option_map kept (ha_of words.entry) }
+    ensures in_range { IfSome result IsInRange }
+{
+    let mode = words.next()?;
+    if !words.is_empty() || !spells(mode, "none") {
+        return None;
+    }
+    Some(Word::Ha { mode: Ha::None })
+}
+
+// `lun L blocks N`, and `depth D pool P` behind it
 fn lun_form(mut words: Parts<'_>) -> Option<Word>
     ensures word { result ≡ option_map kept (lun_of words.entry) }
     ensures in_range { IfSome result IsInRange }
@@ -62,16 +80,13 @@ fn lun_form(mut words: Parts<'_>) -> Option<Word>
     let lun = words.next()?;
     let name = words.next()?;
     let count = words.next()?;
-    if !spells(lun, "0") || !spells(name, "blocks") {
+    if !spells(name, "blocks") {
         return None;
     }
+    let lun = lun_in(lun)?;
     let blocks = number_in(1, MOST_BLOCKS, count)?;
     let sizes = sizes_form(words)?;
-    Some(Word::Lun {
-        lun: LunNo(0),
-        blocks,
-        sizes,
-    })
+    Some(Word::Lun { lun, blocks, sizes })
 }
 
 // `depth D pool P`, or nothing
@@ -97,23 +112,22 @@ fn sizes_form(mut words: Parts<'_>) -> Option<Sizes>
     })
 }
 
-// `port 0 a`
+// `port P a` or `port P b`
 fn port_form(mut words: Parts<'_>) -> Option<Word>
     ensures word { result ≡ option_map kept (port_of words.entry) }
     ensures in_range { IfSome result IsInRange }
 {
     let port = words.next()?;
     let node = words.next()?;
-    if !words.is_empty() || !spells(port, "0") || !spells(node, "a") {
+    if !words.is_empty() {
         return None;
     }
-    Some(Word::Port {
-        port: 0,
-        node: Node::A,
-    })
+    let port = small_in(port)?;
+    let node = node_in(node)?;
+    Some(Word::Port { port, node })
 }
 
-// `map I 0 0 0`
+// `map I P X L`
 fn map_form(mut words: Parts<'_>) -> Option<Word>
     ensures word { result ≡ option_map kept (map_of words.entry) }
     ensures in_range { IfSome result IsInRange }
@@ -122,18 +136,54 @@ fn map_form(mut words: Parts<'_>) -> Option<Word>
     let port = words.next()?;
     let number = words.next()?;
     let lun = words.next()?;
-    if !words.is_empty() || !spells(port, "0") || !spells(number, "0") || !spells(lun, "0") {
+    if !words.is_empty() {
         return None;
     }
-    let init = number_in(0, 15, init)? as u8;
-    Some(Word::Map {
-        n: Nexus { port: 0, init },
-        x: 0,
-        lun: LunNo(0),
-    })
+    let n = nexus_in(init, port)?;
+    let x = small_in(number)?;
+    let lun = lun_in(lun)?;
+    Some(Word::Map { n, x, lun })
 }
 
-// `cmd I 0 0 TAG ATTRIBUTE CDB`, and a last word DATA
+// A number of a logical unit, a port or an initiator, or under which a unit is seen.
+fn small_in(word: &[u8]) -> Option<u8>
+    ensures number { result ≡ small word.now }
+    ensures below { IfSome result (λ n. n < 16) }
+{
+    let number = number_in(0, 15, word)?;
+    Some(number as u8)
+}
+
+fn lun_in(word: &[u8]) -> Option<LunNo>
+    ensures lun { result ≡ lun_no word.now }
+    ensures below { IfSome result (λ lun. lun.0 < 16) }
+{
+    let number = small_in(word)?;
+    Some(LunNo(number))
+}
+
+fn nexus_in(init: &[u8], port: &[u8]) -> Option<Nexus>
+    ensures nexus { result ≡ nexus_of init.now port.now }
+    ensures in_range { IfSome result IsNexus }
+{
+    let init = small_in(init)?;
+    let port = small_in(port)?;
+    Some(Nexus { port, init })
+}
+
+fn node_in(word: &[u8]) -> Option<Node>
+    ensures { result ≡ node_of word.now }
+{
+    if spells(word, "a") {
+        Some(Node::A)
+    } else if spells(word, "b") {
+        Some(Node::B)
+    } else {
+        None
+    }
+}
+
+// `cmd I P X TAG ATTRIBUTE CDB`, and a last word DATA
 fn cmd_form(alloc: Global, mut words: Parts<'_>) -> Result<Option<Word>, NoMemory>
     ensures word { IfOk result (λ word. word ≡ option_map kept (cmd_of words.entry)) }
     ensures in_range { IfOk result (λ word. IfSome word IsInRange) }
@@ -156,32 +206,35 @@ fn cmd_form(alloc: Global, mut words: Parts<'_>) -> Result<Option<Word>, NoMemor
     let Some(cdb) = words.next() else {
         return Ok(None);
     };
-    if spells(port, "0") && spells(number, "0") {
-        command(alloc, init, tag, attribute, cdb, words)
-    } else {
-        Ok(None)
-    }
+    let Some(n) = nexus_in(init, port) else {
+        return Ok(None);
+    };
+    let Some(x) = small_in(number) else {
+        return Ok(None);
+    };
+    command(alloc, n, x, tag, attribute, cdb, words)
 }
 
+// What a nexus sends to a number.
 fn command(
     alloc: Global,
-    init: &[u8],
+    n: Nexus,
+    x: u8,
     tag: &[u8],
     attribute: &[u8],
     cdb: &[u8],
     out: Parts<'_>,
 ) -> Result<Option<Word>, NoMemory>
+    requires seen { IsSeen n x }
     ensures in_range { IfOk result (λ word. IfSome word IsInRange) }
     ensures word { IfOk result (λ word. word ≡ option_map kept (command_of
-        (number_in 0 15 init.now)
+        (Some n)
+        (Some x)
         (number_in 0 (2 ^ 32 - 1) tag.now)
         (attribute_of attribute.now)
         (cdb_bytes_of cdb.now)
         (data_of out.entry))) }
 {
-    let Some(init) = number_in(0, 15, init) else {
-        return Ok(None);
-    };
     let Some(tag) = number_in(0, u32::MAX, tag) else {
         return Ok(None);
     };
@@ -195,11 +248,8 @@ fn command(
         return Ok(None);
     };
     Ok(Some(Word::Cmd {
-        n: Nexus {
-            port: 0,
-            init: init as u8,
-        },
-        x: 0,
+        n,
+        x,
         tag: Tag(tag),
         attr,
         cdb,
@@ -252,7 +302,7 @@ fn read_kept(alloc: Global, text: &[u8]) -> Result<Option<Bytes>, NoMemory>
     read_bytes(alloc, text, KEPT_DATA)
 }
 
-// `task I 0 0 NAME`, and a last word TAG
+// `task I P X NAME`, and a last word TAG
 fn task_form(mut words: Parts<'_>) -> Option<Word>
     ensures word { result ≡ option_map kept (task_of words.entry) }
     ensures in_range { IfSome result IsInRange }
@@ -260,16 +310,10 @@ fn task_form(mut words: Parts<'_>) -> Option<Word>
     let init = words.next()?;
     let port = words.next()?;
     let number = words.next()?;
-    if !spells(port, "0") || !spells(number, "0") {
-        return None;
-    }
-    let init = number_in(0, 15, init)? as u8;
+    let n = nexus_in(init, port)?;
+    let x = small_in(number)?;
     let function = asked_form(words)?;
-    Some(Word::Task {
-        n: Nexus { port: 0, init },
-        x: 0,
-        function,
-    })
+    Some(Word::Task { n, x, function })
 }
 
 // `NAME`, or `NAME TAG`
@@ -318,7 +362,7 @@ fn tagged_in(name: &[u8], tag: Tag) -> Option<Function>
     }
 }
 
-// `step 0 NO N`
+// `step L NO N`
 fn step_form(mut words: Parts<'_>) -> Option<Word>
     ensures word { result ≡ option_map kept (step_of words.entry) }
     ensures in_range { IfSome result IsInRange }
@@ -326,26 +370,43 @@ fn step_form(mut words: Parts<'_>) -> Option<Word>
     let lun = words.next()?;
     let number = words.next()?;
     let blocks = words.next()?;
-    if !words.is_empty() || !spells(lun, "0") {
+    if !words.is_empty() {
         return None;
     }
     Some(Word::Step {
-        lun: LunNo(0),
+        lun: lun_in(lun)?,
         no: number_in(0, u32::MAX, number)?,
         blocks: number_in(1, MOST_STEP, blocks)?,
     })
 }
 
-// `drain 0`
+// `deliver L a` or `deliver L b`
+fn deliver_form(mut words: Parts<'_>) -> Option<Word>
+    ensures word { result ≡ option_map kept (deliver_of words.entry) }
+    ensures in_range { IfSome result IsInRange }
+{
+    let lun = words.next()?;
+    let node = words.next()?;
+    if !words.is_empty() {
+        return None;
+    }
+    Some(Word::Deliver {
+        lun: lun_in(lun)?,
+        node: node_in(node)?,
+    })
+}
+
+// `drain L`
 fn drain_form(mut words: Parts<'_>) -> Option<Word>
     ensures word { result ≡ option_map kept (drain_of words.entry) }
     ensures in_range { IfSome result IsInRange }
 {
     let lun = words.next()?;
-    if !words.is_empty() || !spells(lun, "0") {
+    if !words.is_empty() {
         return None;
     }
-    Some(Word::Drain { lun: LunNo(0) })
+    let lun = lun_in(lun)?;
+    Some(Word::Drain { lun })
 }
 
 // `sync`

@@ -1,7 +1,7 @@
 //! From a script's bytes to its lines.
 
 ghost use Rattle.std.specs.Prelude.{◌≡◌, ◌≤◌, ◌==◌, ◌++◌, ◌∷◌, [], false, length, nat_lt, if◌then◌else◌, IfOk, OnOk};
-ghost use Rattle.ct_script.specs.Rules.{IsInRange, is_misnamed, is_over, passes_limit, disk_blocks, asked_by};
+ghost use Rattle.ct_script.specs.Rules.{IsInRange, is_misnamed, is_over, passes_limit, asked_by};
 ghost use Rattle.ct_script.specs.Rules.{line_asked as asked_in};
 ghost use Rattle.ct_script.specs.Lines.{IsFaultless};
 ghost use Rattle.ct_script.specs.Scripts.{line_of, script_of, fault_at, Gives, GivesLine};
@@ -12,7 +12,8 @@ use crate::rules::{acts, blocks_of, data_bytes, is_command, is_misnamed, is_task
 use crate::script::{Line, ParseError, Script, ScriptFault, What, Word};
 use ct_word::NoMemory;
 use ct_word::limit::{
-    MOST_COMMANDS, MOST_DATA_OUT, MOST_DATA_OUT_TOGETHER, MOST_LINES, MOST_OPERATIONS, MOST_TASKS,
+    MOST_BLOCKS_TOGETHER, MOST_COMMANDS, MOST_DATA_OUT, MOST_DATA_OUT_TOGETHER, MOST_LINES,
+    MOST_OPERATIONS, MOST_TASKS,
 };
 use std::alloc::Global;
 use std::marker::Model;
@@ -81,10 +82,9 @@ struct Draft {
     lines: Vec<Line>,
     // How many lines set up; they come first.
     settings: usize,
-    // Of the disk, once a line declares it.
-    blocks: Option<u32>,
     commands: u64,
     tasks: u64,
+    blocks: u64,
     bytes: u64,
     operations: u64,
 }
@@ -99,7 +99,7 @@ impl Model for Draft {
 
     ghost view = { λ d. d.lines.items };
 
-    ghost invariant = { λ d. AddUp d.lines.items d.settings d.blocks d.commands d.tasks d.bytes d.operations };
+    ghost invariant = { λ d. AddUp d.lines.items d.settings d.commands d.tasks d.blocks d.bytes d.operations };
 }
 
 impl Draft {
@@ -109,9 +109,9 @@ impl Draft {
         Draft {
             lines: Vec::new(alloc),
             settings: 0,
-            blocks: None,
             commands: 0,
             tasks: 0,
+            blocks: 0,
             bytes: 0,
             operations: 0,
         }
@@ -133,6 +133,7 @@ impl Draft {
             || data_bytes(line) > MOST_DATA_OUT
             || self.commands + u64::from(is_command(line)) > MOST_COMMANDS
             || self.tasks + u64::from(is_task(line)) > MOST_TASKS
+            || self.blocks + u64::from(blocks_of(line)) > MOST_BLOCKS_TOGETHER
             || self.bytes + data_bytes(line) > MOST_DATA_OUT_TOGETHER
             || self.asks_too_much(line)
     }
@@ -144,11 +145,13 @@ impl Draft {
         self.asked(line) > MOST_OPERATIONS - self.operations
     }
 
-    // The block operations that a line asks for, on the disk that was declared.
+    // The block operations that a line asks for, on the disks that were declared.
+    #[tactic(auto, using(crate::proofs::Names::asked_first))]
     fn asked(&self, line: &Line) -> u64
-        ensures { result ≡ asked_in (disk_blocks self.now) line.now }
+        ensures { result ≡ asked_in self.now line.now }
     {
-        line_asked(line, self.blocks.unwrap_or(0))
+        let lines = self.lines.as_slice();
+        line_asked(&lines[..self.settings], line)
     }
 
     #[tactic(auto, using(crate::proofs::Names::set_up_acts, crate::proofs::Names::set_up_more))]
@@ -168,7 +171,7 @@ impl Draft {
         let tasks = self.tasks + u64::from(is_task(&line));
         let bytes = self.bytes + data_bytes(&line);
         let operations = self.operations + self.asked(&line);
-        let blocks = self.blocks.or(blocks_of(&line));
+        let blocks = self.blocks + u64::from(blocks_of(&line));
         self.lines.push(line)?;
         self.settings = settings;
         self.blocks = blocks;

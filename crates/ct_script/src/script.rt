@@ -5,7 +5,7 @@ ghost use Rattle.ct_script.specs.Lines.{IsWithin};
 
 use ct_cdb::{Attr2, CdbBytes};
 use ct_tmf::Function;
-use ct_word::{Bytes, LunNo, Nexus, NoMemory, Node, Tag};
+use ct_word::{Bytes, Ha, LunNo, Nexus, NoMemory, Node, Tag};
 use std::marker::Model;
 
 /// How many commands a task set holds, and blocks a pool.
@@ -18,6 +18,10 @@ pub struct Sizes {
 /// What one line of a script says.
 #[derive(Debug, Drop)]
 pub enum Word {
+    /// How the nodes share logical units.
+    Ha {
+        mode: Ha,
+    },
     /// A logical unit of zeros.
     Lun {
         lun: LunNo,
@@ -55,6 +59,11 @@ pub enum Word {
         lun: LunNo,
         no: u32,
         blocks: u32,
+    },
+    /// The first message to a node is delivered.
+    Deliver {
+        lun: LunNo,
+        node: Node,
     },
     /// All that can be done on a logical unit is done.
     Drain {

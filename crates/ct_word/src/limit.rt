@@ -6,6 +6,9 @@ pub const BLOCK_SIZE: usize = 512;
 /// The most blocks of a logical unit.
 pub const MOST_BLOCKS: u32 = 65_536;
 
+/// The most blocks of all logical units of a script together.
+pub const MOST_BLOCKS_TOGETHER: u64 = 131_072;
+
 /// The most blocks that one command moves.
 pub const MOST_TRANSFER: u32 = 256;
 

@@ -1,10 +1,10 @@
 use Rattle.std.proofs.Common.{◌≡◌, ◌+◌, ◌++◌, ◌∷◌, [], List, length, false, sym, ap, ◌∙◌, subst, arith}
 use Rattle.std.proofs.lemmas.Grind.{common_steps}
 use Rattle.ct_script.specs.declared.script.Line.{Line}
-use Rattle.ct_script.specs.Rules.{is_misnamed, is_over, declared_blocks, asked_by, SetUpFirst}
+use Rattle.ct_script.specs.Rules.{is_misnamed, is_over, asked_by, SetUpFirst}
 use Rattle.ct_script.specs.Lines.{IsFaultless, IsWithin}
 use Rattle.ct_script.proofs.Names.{set_up_acts, set_up_more}
-use Rattle.ct_script.proofs.Asking.{declared_more, asked_more, few_asked}
+use Rattle.ct_script.proofs.Asking.{asked_more, few_asked}
 use Rattle.ct_script.proofs.Saying.{one_more_within}
 use Rattle.ct_script.proofs.lines.Draft.push.Goals as goal
 use Rattle.ct_script.proofs.lines.Draft.push.Goals.{then-acts, else-acts}
@@ -18,8 +18,6 @@ invariant_of-self-2 c =
     let asked : c.self.inside.operations + c.asked.result ≡ asked_by (old ++ c.args.line ∷ []) =
     subst (λ (ls : List Line). c.self.inside.operations + c.asked.result ≡ asked_by (ls ++ c.args.line ∷ [])) same
     (omega (arith, asked_more c.args.self.now c.args.line c.requires.named, made, c.asked.ensures)) in
-    let blocks : c.or-blocks.result ≡ declared_blocks (old ++ c.args.line ∷ []) =
-    rw (c.or-blocks.ensures, c.self.invariant.blocks_are, c.blocks_of.ensures) (sym (declared_more old c.args.line)) in
     let items : c.push.new.self.items ≡ old ++ c.args.line ∷ [] = c.in_ok-push.ensures.items in
     record {
       in_order = subst (λ (ls : List Line). SetUpFirst ls c.if-acts.settings) (sym items) (elim c.if-acts.branch [
@@ -31,9 +29,9 @@ invariant_of-self-2 c =
             subst (SetUpFirst (old ++ c.args.line ∷ [])) size
             (set_up_more old c.args.line c.self.inside.settings c.self.invariant.in_order named (sym c.acts.ensures ∙ w.if-acts.false))
       ]);
-      blocks_are = subst (λ (ls : List Line). c.or-blocks.result ≡ declared_blocks ls) (sym items) blocks;
       commands_are = grind (arith, common_steps);
       tasks_are = grind (arith, common_steps);
+      blocks_are = grind (arith, common_steps);
       bytes_are = grind (arith, common_steps);
       operations_are = subst (λ (ls : List Line). c.self.inside.operations + c.asked.result ≡ asked_by ls) (sym items) asked;
       within = subst IsWithin (sym items)
