@@ -1,11 +1,20 @@
 -- The words of a line.
-use Rattle.std.specs.Prelude.{ℕ, List, ◌==◌, ◌&&◌, nat_le, if◌then◌else◌, Option, Some, None}
+use Rattle.std.specs.Prelude.{ℕ, List, [], ◌∷◌, ◌==◌, ◌&&◌, Bool, not, length, filter, nat_le, if◌then◌else◌, Option, Some, None}
+use Rattle.std.specs.Borrow.{Bor}
 use Rattle.std.specs.List.{slice_split}
 use Rattle.ct_word.specs.Decimals.{decimal_of}
 
--- single spaces stand between words
+-- spaces stand between words, and at the ends
+abbrev pub is_word : List ℕ → Bool
+is_word text = not (length text == 0)
+
 abbrev pub words_of : List ℕ → List (List ℕ)
-words_of line = slice_split (λ b. b == 32) line
+words_of line = filter is_word (slice_split (λ b. b == 32) line)
+
+-- a word that is read already, if there is one, and those of the parts behind it
+abbrev pub words_left : Option (Bor (List ℕ)) → List (List ℕ) → List (List ℕ)
+words_left None parts = []
+words_left (Some word) parts = word.now ∷ filter is_word parts
 
 -- a number, where it is within these two
 abbrev pub within : ℕ → ℕ → Option ℕ → Option ℕ

@@ -13,8 +13,8 @@ ghost use Rattle.ct_script.specs.Forms.{task_of, asked_of, function_of, tagged_o
 
 use crate::byte_text::read_bytes;
 use crate::numbers::number_in;
-use crate::parts::Parts;
 use crate::script::{Sizes, Word};
+use crate::words::Words;
 use ct_cdb::{Attr2, CdbBytes};
 use ct_tmf::Function;
 use ct_word::limit::{
@@ -28,7 +28,7 @@ const KEPT_DATA: usize = MOST_DATA_OUT as usize + 1;
 
 /// What the words of a line say, but of DATA that is longer than a line may have just one byte more than that. None where
 /// they are in no form.
-pub fn read_word(alloc: Global, mut words: Parts<'_>) -> Result<Option<Word>, NoMemory>
+pub fn read_word(alloc: Global, mut words: Words<'_>) -> Result<Option<Word>, NoMemory>
     ensures word { IfOk result (λ word. word ≡ option_map kept (word_of words.entry)) }
     ensures in_range { IfOk result (λ word. IfSome word IsInRange) }
 {
@@ -61,7 +61,7 @@ pub fn read_word(alloc: Global, mut words: Parts<'_>) -> Result<Option<Word>, No
 }
 
 // `ha none`
-fn ha_form(mut words: Parts<'_>) -> Option<Word>
+fn ha_form(mut words: Words<'_>) -> Option<Word>
     ensures word { result ≡ option_map kept (ha_of words.entry) }
     ensures in_range { IfSome result IsInRange }
 {
@@ -73,7 +73,7 @@ fn ha_form(mut words: Parts<'_>) -> Option<Word>
 }
 
 // `lun L blocks N`, and `depth D pool P` behind it
-fn lun_form(mut words: Parts<'_>) -> Option<Word>
+fn lun_form(mut words: Words<'_>) -> Option<Word>
     ensures word { result ≡ option_map kept (lun_of words.entry) }
     ensures in_range { IfSome result IsInRange }
 {
@@ -90,7 +90,7 @@ fn lun_form(mut words: Parts<'_>) -> Option<Word>
 }
 
 // `depth D pool P`, or nothing
-fn sizes_form(mut words: Parts<'_>) -> Option<Sizes>
+fn sizes_form(mut words: Words<'_>) -> Option<Sizes>
     ensures sizes { result ≡ sizes_of words.entry }
     ensures in_range { IfSome result IsSized }
 {
@@ -113,7 +113,7 @@ fn sizes_form(mut words: Parts<'_>) -> Option<Sizes>
 }
 
 // `port P a` or `port P b`
-fn port_form(mut words: Parts<'_>) -> Option<Word>
+fn port_form(mut words: Words<'_>) -> Option<Word>
     ensures word { result ≡ option_map kept (port_of words.entry) }
     ensures in_range { IfSome result IsInRange }
 {
@@ -128,7 +128,7 @@ fn port_form(mut words: Parts<'_>) -> Option<Word>
 }
 
 // `map I P X L`
-fn map_form(mut words: Parts<'_>) -> Option<Word>
+fn map_form(mut words: Words<'_>) -> Option<Word>
     ensures word { result ≡ option_map kept (map_of words.entry) }
     ensures in_range { IfSome result IsInRange }
 {
@@ -184,7 +184,7 @@ fn node_in(word: &[u8]) -> Option<Node>
 }
 
 // `cmd I P X TAG ATTRIBUTE CDB`, and a last word DATA
-fn cmd_form(alloc: Global, mut words: Parts<'_>) -> Result<Option<Word>, NoMemory>
+fn cmd_form(alloc: Global, mut words: Words<'_>) -> Result<Option<Word>, NoMemory>
     ensures word { IfOk result (λ word. word ≡ option_map kept (cmd_of words.entry)) }
     ensures in_range { IfOk result (λ word. IfSome word IsInRange) }
 {
@@ -223,7 +223,7 @@ fn command(
     tag: &[u8],
     attribute: &[u8],
     cdb: &[u8],
-    out: Parts<'_>,
+    out: Words<'_>,
 ) -> Result<Option<Word>, NoMemory>
     requires seen { IsSeen n x }
     ensures in_range { IfOk result (λ word. IfSome word IsInRange) }
@@ -283,7 +283,7 @@ fn read_cdb(alloc: Global, text: &[u8]) -> Result<Option<CdbBytes>, NoMemory>
     Ok(Some(CdbBytes::new(cdb)))
 }
 
-fn read_data(alloc: Global, mut words: Parts<'_>) -> Result<Option<Bytes>, NoMemory>
+fn read_data(alloc: Global, mut words: Words<'_>) -> Result<Option<Bytes>, NoMemory>
     ensures { IfOk result (λ found. found ≡ option_map (take (MOST_DATA_OUT + 1)) (data_of words.entry)) }
 {
     let Some(text) = words.next() else {
@@ -303,7 +303,7 @@ fn read_kept(alloc: Global, text: &[u8]) -> Result<Option<Bytes>, NoMemory>
 }
 
 // `task I P X NAME`, and a last word TAG
-fn task_form(mut words: Parts<'_>) -> Option<Word>
+fn task_form(mut words: Words<'_>) -> Option<Word>
     ensures word { result ≡ option_map kept (task_of words.entry) }
     ensures in_range { IfSome result IsInRange }
 {
@@ -317,7 +317,7 @@ fn task_form(mut words: Parts<'_>) -> Option<Word>
 }
 
 // `NAME`, or `NAME TAG`
-fn asked_form(mut words: Parts<'_>) -> Option<Function>
+fn asked_form(mut words: Words<'_>) -> Option<Function>
     ensures { result ≡ asked_of words.entry }
 {
     let name = words.next()?;
@@ -363,7 +363,7 @@ fn tagged_in(name: &[u8], tag: Tag) -> Option<Function>
 }
 
 // `step L NO N`
-fn step_form(mut words: Parts<'_>) -> Option<Word>
+fn step_form(mut words: Words<'_>) -> Option<Word>
     ensures word { result ≡ option_map kept (step_of words.entry) }
     ensures in_range { IfSome result IsInRange }
 {
@@ -381,7 +381,7 @@ fn step_form(mut words: Parts<'_>) -> Option<Word>
 }
 
 // `deliver L a` or `deliver L b`
-fn deliver_form(mut words: Parts<'_>) -> Option<Word>
+fn deliver_form(mut words: Words<'_>) -> Option<Word>
     ensures word { result ≡ option_map kept (deliver_of words.entry) }
     ensures in_range { IfSome result IsInRange }
 {
@@ -397,7 +397,7 @@ fn deliver_form(mut words: Parts<'_>) -> Option<Word>
 }
 
 // `drain L`
-fn drain_form(mut words: Parts<'_>) -> Option<Word>
+fn drain_form(mut words: Words<'_>) -> Option<Word>
     ensures word { result ≡ option_map kept (drain_of words.entry) }
     ensures in_range { IfSome result IsInRange }
 {
@@ -410,7 +410,7 @@ fn drain_form(mut words: Parts<'_>) -> Option<Word>
 }
 
 // `sync`
-fn sync_form(words: Parts<'_>) -> Option<Word>
+fn sync_form(words: Words<'_>) -> Option<Word>
     ensures word { result ≡ option_map kept (sync_of words.entry) }
     ensures in_range { IfSome result IsInRange }
 {

@@ -11,6 +11,7 @@ mod numbers;
 mod parts;
 mod rules;
 mod script;
+mod words;
 
 pub use laws::scripts_are_read_line_by_line;
 pub use lines::parse;

@@ -10,6 +10,7 @@ use crate::forms::read_word;
 use crate::parts::Parts;
 use crate::rules::{acts, blocks_of, data_bytes, is_command, is_misnamed, is_task, line_asked};
 use crate::script::{Line, ParseError, Script, ScriptFault, What, Word};
+use crate::words::Words;
 use ct_word::NoMemory;
 use ct_word::limit::{
     MOST_BLOCKS_TOGETHER, MOST_COMMANDS, MOST_DATA_OUT, MOST_DATA_OUT_TOGETHER, MOST_LINES,
@@ -57,7 +58,7 @@ fn read_line(alloc: Global, draft: &Draft, no: u32, text: &[u8]) -> Result<Line,
     ensures in_range { IfOk result (λ line. IsInRange line.word) }
     ensures fits { IfOk result (λ line. is_over (draft.now ++ line ∷ []) ≡ false) }
 {
-    let Some(word) = read_word(alloc, Parts::new(text, b' '))? else {
+    let Some(word) = read_word(alloc, Words::new(text))? else {
         return Err(fault_at(no, What::Form));
     };
     if draft.is_misnamed(&word) {
