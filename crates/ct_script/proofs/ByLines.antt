@@ -1,18 +1,17 @@
 -- A script is read line by line.
-use Rattle.std.proofs.Common.{◌≡◌, ◌≢◌, ℕ, ◌+◌, Bool, true, false, List, [], ◌∷◌, ◌++◌, ◌==◌, length, Option, Some, None, Result, Ok, Err, refl, sym, ap, ◌∙◌, subst, arith, append_assoc, length-append}
+use Rattle.std.proofs.Common.{◌≡◌, ℕ, ◌+◌, Bool, true, false, List, [], ◌∷◌, ◌++◌, length, Option, Some, None, Result, Ok, Err, refl, sym, ap, ◌∙◌, subst, append_assoc, append-nil, length-append}
 use Rattle.std.specs.Prelude.{if◌then◌else◌}
-use Rattle.std.proofs.lemmas.Bool.Decides.{nat_tests}
-use Rattle.std.proofs.lemmas.List.Splits.{length-slice_split}
 use Rattle.ct_script.specs.declared.script.Line.{Line}
 use Rattle.ct_script.specs.declared.script.Word.{Word}
 use Rattle.ct_script.specs.declared.script.What.{What}
 use Rattle.ct_script.specs.declared.script.What.TheVariants.{Form, Name, Limit}
 use Rattle.ct_script.specs.declared.script.ScriptFault.{ScriptFault}
 use Rattle.ct_script.specs.Words.{words_of}
+use Rattle.ct_script.specs.Texts.{texts_of}
 use Rattle.ct_script.specs.Forms.{word_of}
 use Rattle.ct_script.specs.Rules.{is_misnamed, passes_limit}
 use Rattle.ct_script.specs.Scripts.{line_at, line_by_word, line_of, fault_at, then_lines, lines_from, script_of}
-use Rattle.ct_script.specs.Lines.{Says, AreSaid, none_said, one_more, texts_of, AreLines, HasFault, IsInFault, IsFirstFault, IsReadByLines}
+use Rattle.ct_script.specs.Lines.{Says, AreSaid, none_said, one_more, AreLines, HasFault, IsFirstFault, IsReadByLines}
 use Rattle.ct_script.proofs.Saying.{line_says, says_line}
 
 abbrev Read : Type 0
@@ -24,61 +23,35 @@ said_length texts lines none_said = refl
 said_length texts lines (one_more before earlier text line said says) =
     length-append before (text ∷ []) ∙ ap (λ n. n + 1) (said_length before earlier said) ∙ sym (length-append earlier (line ∷ []))
 
-not_last : (next : List ℕ) (others : List (List ℕ)) → (length (next ∷ others) == 0) ≡ false
-not_last next others = grind (arith, nat_tests)
-
--- a line that a line feed ends
-step_of : (earlier : List Line) (number : ℕ) (text next : List ℕ) (others : List (List ℕ)) →
-    lines_from earlier number (text ∷ next ∷ others) ≡ then_lines number (line_of earlier number text) (λ line. lines_from (earlier ++ line ∷ []) (number + 1) (next ∷ others))
-step_of earlier number text next others =
-    ap (λ t. if t then (if length text == 0 then Ok earlier else Err (fault_at number Form)) else then_lines number (line_of earlier number text) (λ line. lines_from (earlier ++ line ∷ []) (number + 1) (next ∷ others))) (not_last next others)
-
 one_longer : (earlier : List Line) (line : Line) → length earlier + 1 + 1 ≡ length (earlier ++ line ∷ []) + 1
 one_longer earlier line = ap (λ n. n + 1) (sym (length-append earlier (line ∷ [])))
 
 -- lines that were said are read
-behind : (texts : List (List ℕ)) (lines : List Line) → AreSaid texts lines → (text : List ℕ) (rest : List (List ℕ)) →
-    lines_from [] 1 (texts ++ text ∷ rest) ≡ lines_from lines (length lines + 1) (text ∷ rest)
-behind texts lines none_said text rest = refl
-behind texts lines (one_more before earlier said_text line said says) text rest =
-    ap (lines_from [] 1) (append_assoc before (said_text ∷ []) (text ∷ rest))
-    ∙ behind before earlier said said_text (text ∷ rest)
-    ∙ step_of earlier (length earlier + 1) said_text text rest
-    ∙ ap (λ r. then_lines (length earlier + 1) r (λ l. lines_from (earlier ++ l ∷ []) (length earlier + 1 + 1) (text ∷ rest))) (says_line earlier said_text line says)
-    ∙ ap (λ n. lines_from (earlier ++ line ∷ []) n (text ∷ rest)) (one_longer earlier line)
+behind : (texts : List (List ℕ)) (lines : List Line) → AreSaid texts lines → (rest : List (List ℕ))
+    → lines_from [] 1 (texts ++ rest) ≡ lines_from lines (length lines + 1) rest
+behind texts lines none_said rest = refl
+behind texts lines (one_more before earlier text line said says) rest =
+    ap (lines_from [] 1) (append_assoc before (text ∷ []) rest)
+    ∙ behind before earlier said (text ∷ rest)
+    ∙ ap (λ r. then_lines (length earlier + 1) r (λ l. lines_from (earlier ++ l ∷ []) (length earlier + 1 + 1) rest)) (says_line earlier text line says)
+    ∙ ap (λ n. lines_from (earlier ++ line ∷ []) n rest) (one_longer earlier line)
 
-empty_of : (text : List ℕ) → (length text == 0) ≡ true → text ≡ []
-empty_of [] e = refl
-empty_of (byte ∷ bytes) e = absurd (let f : (length (byte ∷ bytes) == 0) ≡ false = grind (arith, nat_tests) in cc)
-
--- what is left behind lines that were said
-pub record Left (texts rest : List (List ℕ)) (found : List Line) : Type 0 where
-  pub all : List (List ℕ)
-  pub whole : texts ++ rest ≡ all ++ [] ∷ []
-  pub said : AreSaid all found
-
-left_more : (texts : List (List ℕ)) (text : List ℕ) (rest : List (List ℕ)) (found : List Line) → Left (texts ++ text ∷ []) rest found → Left texts (text ∷ rest) found
-left_more texts text rest found h = record { all = h.all; whole = sym (append_assoc texts (text ∷ []) rest) ∙ h.whole; said = h.said }
-
-last_read : (lines found : List Line) (number : ℕ) (t : Bool) → (if t then Ok lines else Err (fault_at number Form)) ≡ Ok found → (t ≡ true) × (lines ≡ found)
-last_read lines found number true e = (refl, cc)
-last_read lines found number false e = absurd (cc)
-
-read_on : (rest texts : List (List ℕ)) (lines : List Line) → AreSaid texts lines → (text : List ℕ) (found : List Line) → lines_from lines (length lines + 1) (text ∷ rest) ≡ Ok found → Left texts (text ∷ rest) found
-read_on [] texts lines said text found e =
-    let end = last_read lines found (length lines + 1) (length text == 0) e in
-    record { all = texts; whole = ap (λ t. texts ++ t ∷ []) (empty_of text end.0); said = subst (λ ls. AreSaid texts ls) end.1 said }
-read_on (next ∷ others) texts lines said text found e =
-    go (λ line says h. read_on others (texts ++ text ∷ []) (lines ++ line ∷ []) (one_more texts lines text line said says) next found h)
-    (line_of lines (length lines + 1) text) refl (sym (step_of lines (length lines + 1) text next others) ∙ e)
+read_on : (rest texts : List (List ℕ)) (lines : List Line) → AreSaid texts lines → (found : List Line)
+    → lines_from lines (length lines + 1) rest ≡ Ok found → AreSaid (texts ++ rest) found
+read_on [] texts lines said found e =
+    let same : lines ≡ found = cc in
+    subst (λ ts. AreSaid ts found) (sym (append-nil texts)) (subst (λ ls. AreSaid texts ls) same said)
+read_on (text ∷ others) texts lines said found e =
+    go (λ line says h. read_on others (texts ++ text ∷ []) (lines ++ line ∷ []) (one_more texts lines text line said says) found h)
+    (line_of lines (length lines + 1) text) refl e
   where
-    go : ((line : Line) → Says lines text line → lines_from (lines ++ line ∷ []) (length (lines ++ line ∷ []) + 1) (next ∷ others) ≡ Ok found → Left (texts ++ text ∷ []) (next ∷ others) found) →
-        (r : Result Line What) → line_of lines (length lines + 1) text ≡ r → then_lines (length lines + 1) r (λ l. lines_from (lines ++ l ∷ []) (length lines + 1 + 1) (next ∷ others)) ≡ Ok found → Left texts (text ∷ next ∷ others) found
+    go : ((line : Line) → Says lines text line → lines_from (lines ++ line ∷ []) (length (lines ++ line ∷ []) + 1) others ≡ Ok found → AreSaid ((texts ++ text ∷ []) ++ others) found) →
+        (r : Result Line What) → line_of lines (length lines + 1) text ≡ r → then_lines (length lines + 1) r (λ l. lines_from (lines ++ l ∷ []) (length lines + 1 + 1) others) ≡ Ok found → AreSaid (texts ++ text ∷ others) found
     go again (Err what) l h = absurd (cc)
     go again (Ok line) l h =
-        left_more texts text (next ∷ others) found
+        subst (λ ts. AreSaid ts found) (append_assoc texts (text ∷ []) others)
         (again line (line_says lines (length lines + 1) text line refl l)
-        (ap (λ n. lines_from (lines ++ line ∷ []) n (next ∷ others)) (sym (one_longer lines line)) ∙ h))
+        (ap (λ n. lines_from (lines ++ line ∷ []) n others) (sym (one_longer lines line)) ∙ h))
 
 -- the fault of a line
 has_fault : (earlier : List Line) (text : List ℕ) (what : What) → line_of earlier (length earlier + 1) text ≡ Err what → HasFault earlier text what
@@ -115,7 +88,7 @@ pub record Faulty (texts rest : List (List ℕ)) (fault : ScriptFault) : Type 0 
   pub later : List (List ℕ)
   pub whole : texts ++ rest ≡ all ++ text ∷ later
   pub number : fault.line ≡ length all + 1
-  pub what : IsInFault lines text later fault.what
+  pub what : HasFault lines text fault.what
 
 faulty_more : (texts : List (List ℕ)) (text : List ℕ) (rest : List (List ℕ)) (fault : ScriptFault) → Faulty (texts ++ text ∷ []) rest fault → Faulty texts (text ∷ rest) fault
 faulty_more texts text rest fault h = record {
@@ -129,33 +102,15 @@ faulty_more texts text rest fault h = record {
   what = h.what;
 }
 
-last_fault : (lines : List Line) (fault : ScriptFault) (number : ℕ) (t : Bool) → (if t then Ok lines else Err (fault_at number Form)) ≡ Err fault → (t ≡ false) × (fault_at number Form ≡ fault)
-last_fault lines fault number true e = absurd (cc)
-last_fault lines fault number false e = (refl, cc)
-
-not_empty : (text : List ℕ) → (length text == 0) ≡ false → text ≢ []
-not_empty [] e h = absurd (cc)
-not_empty (byte ∷ bytes) e h = absurd (cc)
-
-fault_on : (rest texts : List (List ℕ)) (lines : List Line) → AreSaid texts lines → (text : List ℕ) (fault : ScriptFault) → lines_from lines (length lines + 1) (text ∷ rest) ≡ Err fault → Faulty texts (text ∷ rest) fault
-fault_on [] texts lines said text fault e =
-    let end = last_fault lines fault (length lines + 1) (length text == 0) e in
-    record {
-      all = texts;
-      lines = lines;
-      said = said;
-      text = text;
-      later = [];
-      whole = refl;
-      number = sym (ap (λ (f : ScriptFault). f.line) end.1) ∙ ap (λ n. n + 1) (sym (said_length texts lines said));
-      what = (not_empty text end.0, sym (ap (λ (f : ScriptFault). f.what) end.1));
-    }
-fault_on (next ∷ others) texts lines said text fault e =
-    go (λ line says h. fault_on others (texts ++ text ∷ []) (lines ++ line ∷ []) (one_more texts lines text line said says) next fault h)
-    (line_of lines (length lines + 1) text) refl (sym (step_of lines (length lines + 1) text next others) ∙ e)
+fault_on : (rest texts : List (List ℕ)) (lines : List Line) → AreSaid texts lines → (fault : ScriptFault)
+    → lines_from lines (length lines + 1) rest ≡ Err fault → Faulty texts rest fault
+fault_on [] texts lines said fault e = absurd (cc)
+fault_on (text ∷ others) texts lines said fault e =
+    go (λ line says h. fault_on others (texts ++ text ∷ []) (lines ++ line ∷ []) (one_more texts lines text line said says) fault h)
+    (line_of lines (length lines + 1) text) refl e
   where
-    go : ((line : Line) → Says lines text line → lines_from (lines ++ line ∷ []) (length (lines ++ line ∷ []) + 1) (next ∷ others) ≡ Err fault → Faulty (texts ++ text ∷ []) (next ∷ others) fault) →
-        (r : Result Line What) → line_of lines (length lines + 1) text ≡ r → then_lines (length lines + 1) r (λ l. lines_from (lines ++ l ∷ []) (length lines + 1 + 1) (next ∷ others)) ≡ Err fault → Faulty texts (text ∷ next ∷ others) fault
+    go : ((line : Line) → Says lines text line → lines_from (lines ++ line ∷ []) (length (lines ++ line ∷ []) + 1) others ≡ Err fault → Faulty (texts ++ text ∷ []) others fault) →
+        (r : Result Line What) → line_of lines (length lines + 1) text ≡ r → then_lines (length lines + 1) r (λ l. lines_from (lines ++ l ∷ []) (length lines + 1 + 1) others) ≡ Err fault → Faulty texts (text ∷ others) fault
     go again (Err what) l h =
         let same : fault_at (length lines + 1) what ≡ fault = cc in
         record {
@@ -163,56 +118,43 @@ fault_on (next ∷ others) texts lines said text fault e =
           lines = lines;
           said = said;
           text = text;
-          later = next ∷ others;
+          later = others;
           whole = refl;
           number = sym (ap (λ (f : ScriptFault). f.line) same) ∙ ap (λ n. n + 1) (sym (said_length texts lines said));
           what = subst (HasFault lines text) (ap (λ (f : ScriptFault). f.what) same) (has_fault lines text what l);
         }
     go again (Ok line) l h =
-        faulty_more texts text (next ∷ others) fault
+        faulty_more texts text others fault
         (again line (line_says lines (length lines + 1) text line refl l)
-        (ap (λ n. lines_from (lines ++ line ∷ []) n (next ∷ others)) (sym (one_longer lines line)) ∙ h))
+        (ap (λ n. lines_from (lines ++ line ∷ []) n others) (sym (one_longer lines line)) ∙ h))
 
 -- a line in fault is told
-told : (lines : List Line) (text : List ℕ) (later : List (List ℕ)) (what : What) → IsInFault lines text later what → lines_from lines (length lines + 1) (text ∷ later) ≡ Err (fault_at (length lines + 1) what)
-told lines [] [] what h = absurd (h.0 refl)
-told lines (byte ∷ bytes) [] what h =
-    let some : (length (byte ∷ bytes) == 0) ≡ false = grind (arith, nat_tests) in
-    ap (λ t. if t then Ok lines else Err (fault_at (length lines + 1) Form)) some ∙ ap (λ w. Err (fault_at (length lines + 1) w)) (sym h.1)
-told lines text (next ∷ others) what h =
-    step_of lines (length lines + 1) text next others
-    ∙ ap (λ r. then_lines (length lines + 1) r (λ l. lines_from (lines ++ l ∷ []) (length lines + 1 + 1) (next ∷ others))) (fault_of lines text what h)
+told : (lines : List Line) (text : List ℕ) (later : List (List ℕ)) (what : What) → HasFault lines text what
+    → lines_from lines (length lines + 1) (text ∷ later) ≡ Err (fault_at (length lines + 1) what)
+told lines text later what h =
+    ap (λ r. then_lines (length lines + 1) r (λ l. lines_from (lines ++ l ∷ []) (length lines + 1 + 1) later)) (fault_of lines text what h)
 
 abbrev from_texts : List (List ℕ) → Read
 from_texts texts = lines_from [] 1 texts
 
-good_lines : (bytes : List ℕ) (lines : List Line) (parts : List (List ℕ)) → texts_of bytes ≡ parts → from_texts parts ≡ Ok lines → AreLines bytes lines
-good_lines bytes lines [] p e =
-    absurd (let size = length-slice_split (λ b. b == 10) bytes in let none : length (texts_of bytes) ≡ 0 = ap length p in omega (arith, size, none))
-good_lines bytes lines (text ∷ rest) p e =
-    let left = read_on rest [] [] none_said text lines e in
-    record { texts = left.all; whole = p ∙ left.whole; said = left.said }
-
-first_fault : (bytes : List ℕ) (fault : ScriptFault) (parts : List (List ℕ)) → texts_of bytes ≡ parts → from_texts parts ≡ Err fault → IsFirstFault bytes fault
-first_fault bytes fault [] p e =
-    absurd (let size = length-slice_split (λ b. b == 10) bytes in let none : length (texts_of bytes) ≡ 0 = ap length p in omega (arith, size, none))
-first_fault bytes fault (text ∷ rest) p e =
-    let f = fault_on rest [] [] none_said text fault e in
-    record { texts = f.all; lines = f.lines; said = f.said; text = f.text; later = f.later; whole = p ∙ f.whole; number = f.number; what = f.what }
+first_fault : (bytes : List ℕ) (fault : ScriptFault) → from_texts (texts_of bytes) ≡ Err fault → IsFirstFault bytes fault
+first_fault bytes fault e =
+    let f = fault_on (texts_of bytes) [] [] none_said fault e in
+    record { texts = f.all; lines = f.lines; said = f.said; text = f.text; later = f.later; whole = f.whole; number = f.number; what = f.what }
 
 good_back : (bytes : List ℕ) (lines : List Line) → AreLines bytes lines → from_texts (texts_of bytes) ≡ Ok lines
-good_back bytes lines h = ap from_texts h.whole ∙ behind h.texts lines h.said [] []
+good_back bytes lines h = ap from_texts (sym (append-nil (texts_of bytes))) ∙ behind (texts_of bytes) lines h []
 
 fault_back : (bytes : List ℕ) (fault : ScriptFault) → IsFirstFault bytes fault → from_texts (texts_of bytes) ≡ Err fault
 fault_back bytes fault h =
     ap from_texts h.whole
-    ∙ behind h.texts h.lines h.said h.text h.later
+    ∙ behind h.texts h.lines h.said (h.text ∷ h.later)
     ∙ told h.lines h.text h.later fault.what h.what
     ∙ ap (λ n. Err (fault_at n fault.what)) (ap (λ n. n + 1) (sym (said_length h.texts h.lines h.said)) ∙ sym h.number)
 
 pub read_by_lines : (bytes : List ℕ) → IsReadByLines bytes
 unfolding script_of
 read_by_lines bytes = record {
-  good = λ lines. (λ e. good_lines bytes lines (texts_of bytes) refl e, λ h. good_back bytes lines h);
-  faulty = λ fault. (λ e. first_fault bytes fault (texts_of bytes) refl e, λ h. fault_back bytes fault h);
+  good = λ lines. (λ e. read_on (texts_of bytes) [] [] none_said lines e, λ h. good_back bytes lines h);
+  faulty = λ fault. (λ e. first_fault bytes fault e, λ h. fault_back bytes fault h);
 }

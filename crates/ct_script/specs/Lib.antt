@@ -2,6 +2,7 @@ pub mod Cuts
 pub mod ByteText
 pub mod Reading
 pub mod Words
+pub mod Texts
 pub mod Forms
 pub mod Rules
 pub mod Scripts

@@ -1,12 +1,12 @@
 -- Lines in no fault, each judged behind the lines before it, and the first line in fault.
-use Rattle.std.specs.Prelude.{◌≡◌, ◌≢◌, ◌↔◌, ℕ, ◌+◌, List, [], ◌∷◌, ◌++◌, ◌==◌, true, false, length, sum_by, count_by, Some, None, Ok, Err}
-use Rattle.std.specs.List.{slice_split}
+use Rattle.std.specs.Prelude.{◌≡◌, ◌↔◌, ℕ, ◌+◌, List, [], ◌∷◌, ◌++◌, true, false, length, sum_by, count_by, Some, None, Ok, Err}
 use Rattle.ct_script.specs.declared.script.Line.{Line}
 use Rattle.ct_script.specs.declared.script.Word.{Word}
 use Rattle.ct_script.specs.declared.script.What.{What}
 use Rattle.ct_script.specs.declared.script.What.TheVariants.{Form, Name, Limit}
 use Rattle.ct_script.specs.declared.script.ScriptFault.{ScriptFault}
 use Rattle.ct_script.specs.Words.{words_of}
+use Rattle.ct_script.specs.Texts.{texts_of}
 use Rattle.ct_script.specs.Forms.{word_of}
 use Rattle.ct_script.specs.Rules.{is_misnamed, is_over, passes_limit, is_command, is_task, data_bytes, line_blocks, asked_by, AreInRange, SetUpFirst}
 use Rattle.ct_script.specs.Scripts.{line_at, script_of}
@@ -48,15 +48,9 @@ pub record AddUp (lines : List Line) (settings commands tasks blocks bytes opera
   pub operations_are : operations ≡ asked_by lines
   pub within : IsWithin lines
 
--- the bytes up to each line feed, and those behind the last
-abbrev pub texts_of : List ℕ → List (List ℕ)
-texts_of bytes = slice_split (λ b. b == 10) bytes
-
--- each line of the bytes is in no fault behind those before it, and behind the last line feed nothing is left
-pub record AreLines (bytes : List ℕ) (lines : List Line) : Type 0 where
-  pub texts : List (List ℕ)
-  pub whole : texts_of bytes ≡ texts ++ [] ∷ []
-  pub said : AreSaid texts lines
+-- each line of the bytes is in no fault behind those before it
+abbrev pub AreLines : List ℕ → List Line → Type 0
+AreLines bytes lines = AreSaid (texts_of bytes) lines
 
 -- the fault of a text behind these lines: the first of form, name and limit
 abbrev pub HasFault : List Line → List ℕ → What → Type 0
@@ -65,11 +59,6 @@ HasFault earlier text Name = (word : Word) × (word_of (words_of text) ≡ Some 
 HasFault earlier text Limit =
     (word : Word) × (word_of (words_of text) ≡ Some word) × (is_misnamed earlier word ≡ false)
     × (passes_limit earlier (line_at (length earlier + 1) word) ≡ true)
-
--- a text that no line feed ends is in no form
-abbrev pub IsInFault : List Line → List ℕ → List (List ℕ) → What → Type 0
-IsInFault earlier text [] what = (text ≢ []) × (what ≡ Form)
-IsInFault earlier text (_ ∷ _) what = HasFault earlier text what
 
 -- the first line in fault: those before it are in none
 pub record IsFirstFault (bytes : List ℕ) (fault : ScriptFault) : Type 0 where
@@ -80,7 +69,7 @@ pub record IsFirstFault (bytes : List ℕ) (fault : ScriptFault) : Type 0 where
   pub later : List (List ℕ)
   pub whole : texts_of bytes ≡ texts ++ text ∷ later
   pub number : fault.line ≡ length texts + 1
-  pub what : IsInFault lines text later fault.what
+  pub what : HasFault lines text fault.what
 
 -- bytes are a script exactly where each line is in no fault behind those before it, and in fault exactly where some line
 -- is the first that is

@@ -1,6 +1,5 @@
 -- The grammar of scripts, line by line.
-use Rattle.std.specs.Prelude.{ℕ, ◌+◌, List, [], ◌∷◌, ◌++◌, ◌==◌, ◌≡◌, length, if◌then◌else◌, Option, Some, None, Result, Ok, Err}
-use Rattle.std.specs.List.{slice_split}
+use Rattle.std.specs.Prelude.{ℕ, ◌+◌, List, [], ◌∷◌, ◌++◌, ◌≡◌, if◌then◌else◌, Option, Some, None, Result, Ok, Err}
 use Rattle.ct_script.specs.declared.script.Line.{Line}
 use Rattle.ct_script.specs.declared.script.Word.{Word}
 use Rattle.ct_script.specs.declared.script.What.{What}
@@ -9,6 +8,7 @@ use Rattle.ct_script.specs.declared.script.ScriptFault.{ScriptFault}
 use Rattle.ct_script.specs.declared.script.ParseError.{ParseError}
 use Rattle.ct_script.specs.declared.script.ParseError.TheVariants as errors
 use Rattle.ct_script.specs.Words.{words_of}
+use Rattle.ct_script.specs.Texts.{texts_of}
 use Rattle.ct_script.specs.Forms.{word_of}
 use Rattle.ct_script.specs.Rules.{is_misnamed, passes_limit}
 
@@ -37,17 +37,15 @@ abbrev pub then_lines : ℕ → Result Line What → (Line → Result (List Line
 then_lines number (Ok line) others = others line
 then_lines number (Err what) others = Err (fault_at number what)
 
--- lines after these, each before a line feed: behind the last line feed nothing is left
+-- lines after these
 abbrev pub lines_from : List Line → ℕ → List (List ℕ) → Result (List Line) ScriptFault
 lines_from earlier number [] = Ok earlier
 lines_from earlier number (text ∷ others) =
-    if length others == 0
-    then (if length text == 0 then Ok earlier else Err (fault_at number Form))
-    else then_lines number (line_of earlier number text) (λ line. lines_from (earlier ++ line ∷ []) (number + 1) others)
+    then_lines number (line_of earlier number text) (λ line. lines_from (earlier ++ line ∷ []) (number + 1) others)
 
 -- the lines that the bytes say, or the first line in fault
 unfoldable pub script_of : List ℕ → Result (List Line) ScriptFault
-script_of bytes = lines_from [] 1 (slice_split (λ b. b == 10) bytes)
+script_of bytes = lines_from [] 1 (texts_of bytes)
 
 -- what a parser answers: want of memory is free
 abbrev pub Gives : {X : Type 0} → Result X ParseError → Result X ScriptFault → Type 0

@@ -6,6 +6,7 @@ mod cuts;
 mod digits;
 mod forms;
 mod laws;
+mod line_texts;
 mod lines;
 mod numbers;
 mod parts;

@@ -7,7 +7,7 @@ ghost use Rattle.ct_script.specs.Lines.{IsFaultless};
 ghost use Rattle.ct_script.specs.Scripts.{line_of, script_of, fault_at, Gives, GivesLine};
 
 use crate::forms::read_word;
-use crate::parts::Parts;
+use crate::line_texts::LineTexts;
 use crate::rules::{acts, blocks_of, data_bytes, is_command, is_misnamed, is_task, line_asked};
 use crate::script::{Line, ParseError, Script, ScriptFault, What, Word};
 use crate::words::Words;
@@ -25,12 +25,9 @@ pub fn parse(alloc: Global, bytes: &[u8]) -> Result<Script, ParseError>
     ensures { Gives result (script_of bytes.now) }
 {
     let mut draft = Draft::new(alloc);
-    let mut lines = Parts::new(bytes, b'\n');
+    let mut texts = LineTexts::new(bytes);
     let mut no = 1;
-    while let Some(text) = lines.next() {
-        if lines.is_empty() {
-            return last_line(draft, no, text);
-        }
+    while let Some(text) = texts.next() {
         let line = read_line(alloc, &draft, no, text)?;
         draft.push(line)?;
         no += 1;
@@ -38,18 +35,7 @@ pub fn parse(alloc: Global, bytes: &[u8]) -> Result<Script, ParseError>
     Ok(draft.into_script())
 }
 
-// Behind the last line feed nothing is left.
-fn last_line(draft: Draft, no: u32, text: &[u8]) -> Result<Script, ParseError>
-    ensures { Gives result (if length text.now == 0 then Ok draft else Err (fault_at no What.Form)) }
-{
-    if text.is_empty() {
-        Ok(draft.into_script())
-    } else {
-        Err(fault_at(no, What::Form))
-    }
-}
-
-// The next line, which a line feed ends.
+// The next line.
 #[tactic(auto, unfolding(crate::specs::Scripts::line_of))]
 fn read_line(alloc: Global, draft: &Draft, no: u32, text: &[u8]) -> Result<Line, ParseError>
     ensures line { GivesLine no result (line_of draft.now no text.now) }

@@ -6,10 +6,10 @@ use Rattle.ct_script.proofs.lines.parse.Given as goal
 -- what the rest of the text makes of the lines so far is what the whole text says
 abbrev pub invariant-loop-text : goal.invariant-loop-text
 invariant-loop-text l = record {
-  same : lines_from l.draft l.no l.lines ≡ script_of l.bytes;
+  same : lines_from l.draft l.no l.texts ≡ script_of l.bytes;
   few : l.no ≤ MOST_LINES + 1;
   number : l.no ≡ length l.draft + 1;
 }
 
 abbrev pub decreases-loop-text : goal.decreases-loop-text
-decreases-loop-text l = length l.lines
+decreases-loop-text l = length l.texts
