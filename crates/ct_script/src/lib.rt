@@ -17,3 +17,6 @@ mod words;
 pub use laws::scripts_are_read_line_by_line;
 pub use lines::parse;
 pub use script::{Line, ParseError, Script, ScriptFault, Sizes, What, Word};
+
+#[cfg(test)]
+mod tests;
